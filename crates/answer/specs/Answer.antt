@@ -1,0 +1,19 @@
+-- What a call answers. Document 01, "Refusal numbers": a number is "given exactly when" its condition holds, the conditions of a call
+-- are asked in the order stated there, and "a refused call returns its number only".
+use Prim.Native.Nat.{ℕ}
+use mathlib.Core.Bool.{Bool, cond}
+use mathlib.Core.List.{List, [], _∷_}
+
+pub data Answer (A : Type 0) : Type 0 where
+  refused : ℕ → Answer A
+  accepted : A → Answer A
+
+-- a refusal number, and the condition under which it is given
+infix 20 _when_
+pub data Guard : Type 0 where
+  _when_ : ℕ → Bool → Guard
+
+-- the first guard whose condition holds gives its number; past them all, the call is accepted
+abbrev pub guarded : {A : Type 0} → List Guard → A → Answer A
+guarded [] a = accepted a
+guarded ((k when b) ∷ gs) a = cond b (refused k) (guarded gs a)

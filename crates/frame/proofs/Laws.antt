@@ -1,0 +1,46 @@
+-- Laws on bits, and what the refusals that do not hold leave of a frame. Assumes nothing.
+use Prim.Native.Nat.{ℕ, _+_, _-_, _*_, _%_, _^_, _≤_, _<_}
+use mathlib.Core.Path.{_≡_, sym, ap, _∙_}
+use mathlib.Core.Bool.{Bool, false, _&&_, _||_}
+use native.Mathlib.Nat.{one-mul, mod-eq-of-lt}
+use native.Mathlib.Omega.{arith}
+use lib.Bits.{bitAnd, bitOr, and-mask, or-shifted}
+use lib.Dec.{lit<, ltb, eqb}
+use lib.Pow.{shl-exact}
+use borrow.Author.Tests.{ltb-false, eqb-false}
+use Rattle.answer.proofs.Guards.{neither}
+use Rattle.frame.specs.Layout.{Fit}
+use Rattle.frame.specs.Frame.{widths, parts, badRound, badValue, badLayout}
+use Rattle.frame.specs.declared.Frame.{Frame}
+
+-- `1 << k` within sixteen bits
+pub one-shl : (k : ℕ) → k < 16 → 1 * 2 ^ k % 65536 ≡ 2 ^ k
+one-shl k h = shl-exact 1 k 16 (lit< tt) (omega arith) ∙ one-mul (2 ^ k)
+
+-- `x & (1 << k) - 1`: the low k bits
+pub low-bits : (x k : ℕ) → k < 16 → bitAnd x (1 * 2 ^ k % 65536 - 1) ≡ x % 2 ^ k
+low-bits x k h = ap (λ (p : ℕ). bitAnd x (p - 1)) (one-shl k h) ∙ and-mask x k
+
+-- `x << k | y`, where no bit is lost and y has k bits
+pub shl-or : (x k y : ℕ) → y < 2 ^ k → x * 2 ^ k + y < 65536 → bitOr (x * 2 ^ k % 65536) y ≡ x * 2 ^ k + y
+shl-or x k y l h =
+    let whole : x * 2 ^ k < 65536 = omega arith in
+    ap (λ (p : ℕ). bitOr p y) (mod-eq-of-lt whole) ∙ or-shifted x k y l
+
+-- a frame that nothing refuses has a phase, and each part fits its field
+pub writable : (f : Frame) → badRound (f .round) ≡ false → badValue (f .value) (f .stage) ≡ false → badLayout f ≡ false
+    → (1 ≤ f .phase) × Fit widths (parts f)
+writable f r v l =
+    let sender = ltb 31 (f .sender) in
+    let kind = ltb 1 (f .kind) in
+    let none = eqb (f .phase) 0 in
+    let phase = ltb 2 (f .phase) in
+    let stage = ltb 1 (f .stage) in
+    let a = neither (sender || kind || none || phase) stage l in
+    let b = neither (sender || kind || none) phase (a .0) in
+    let c = neither (sender || kind) none (b .0) in
+    let d = neither sender kind (c .0) in
+    let some = eqb-false (f .phase) 0 (c .1) in
+    let round : f .round < 32 = omega (arith, ltb-false 16 (f .round) (neither (eqb (f .round) 0) (ltb 16 (f .round)) r .1)) in
+    let value : f .value < 4 = omega (arith, ltb-false 2 (f .value) (neither (ltb 2 (f .value)) (eqb (f .value) 2 && eqb (f .stage) 0) v .0)) in
+    omega (arith, ltb-false 31 (f .sender) (d .0), ltb-false 1 (f .kind) (d .1), ltb-false 2 (f .phase) (b .1), ltb-false 1 (f .stage) (a .1))

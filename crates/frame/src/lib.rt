@@ -1,0 +1,126 @@
+// The wire's sixteen bits: a frame is unpacked from a word and packed into one, by shifts and masks.
+//
+// Both calls take every value of their parameter's type and answer document 01's refusal where it
+// has one: nothing panics, wraps or is masked away.
+ghost use Prim.Native.Nat.{_+_, _*_, _/_, _%_, _^_, _≤_, _<_};
+ghost use mathlib.Core.Path.{_≡_};
+ghost use Rattle.frame.specs.Frame.{widths, parts, frameOf, wordOf, badRound, badValue, badLayout, Unpacks, Packs};
+ghost use Rattle.frame.specs.Layout.{Fit};
+
+// What a frame says. Kind: 0 VAL, 1 AUX. Round 1 to 16, phase 1 or 2, stage 0 or 1. Value: 0, 1, or
+// 2 for "neither". A struct of these may hold any numbers: `pack` refuses what a frame can't say.
+pub struct Frame {
+    pub kind: u8,
+    pub round: u8,
+    pub phase: u8,
+    pub stage: u8,
+    pub value: u8,
+    pub sender: u8,
+}
+
+pub enum Unpacked {
+    Frame(Frame),
+    Refused(u8),
+}
+
+pub enum Packed {
+    Word(u16),
+    Refused(u8),
+}
+
+// The frame that a word holds: refusals 7, 8, 9.
+pub fn unpack(word: u16) -> Unpacked
+    ensures { λ r. ⌜ Unpacks word r ⌝ }
+{
+    if field(word, 15, 1) == 1 {
+        return Unpacked::Refused(7);
+    }
+    let frame = read_fields(word);
+    if bad_round(frame.round) {
+        return Unpacked::Refused(8);
+    }
+    if bad_value(frame.value, frame.stage) {
+        return Unpacked::Refused(9);
+    }
+    Unpacked::Frame(frame)
+}
+
+// The word that holds a frame: refusals 8, 9, 5.
+pub fn pack(frame: Frame) -> Packed
+    ensures { λ r. ⌜ Packs frame r ⌝ }
+{
+    if bad_round(frame.round) {
+        return Packed::Refused(8);
+    }
+    if bad_value(frame.value, frame.stage) {
+        return Packed::Refused(9);
+    }
+    if bad_layout(frame) {
+        return Packed::Refused(5);
+    }
+    Packed::Word(write_fields(frame))
+}
+
+// 8: a round that is none.
+fn bad_round(round: u8) -> bool
+    ensures { λ r. ⌜ r ≡ badRound round ⌝ }
+{
+    (round == 0) | (16 < round)
+}
+
+// 9: a value that is none, or neither in stage 0.
+fn bad_value(value: u8, stage: u8) -> bool
+    ensures { λ r. ⌜ r ≡ badValue value stage ⌝ }
+{
+    (2 < value) | ((value == 2) & (stage == 0))
+}
+
+// 5 of packing: what the layout has no bits or no name for.
+fn bad_layout(f: Frame) -> bool
+    ensures { λ r. ⌜ r ≡ badLayout f ⌝ }
+{
+    (31 < f.sender) | (1 < f.kind) | (f.phase == 0) | (2 < f.phase) | (1 < f.stage)
+}
+
+// The fields of a word, whatever they hold.
+fn read_fields(word: u16) -> Frame
+    ensures { λ r. ⌜ r ≡ frameOf word ⌝ }
+{
+    Frame {
+        kind: field(word, 14, 1),
+        round: field(word, 9, 5),
+        phase: field(word, 8, 1) + 1,
+        stage: field(word, 7, 1),
+        value: field(word, 5, 2),
+        sender: field(word, 0, 5),
+    }
+}
+
+// The word of a frame that no refusal holds back, under version 0.
+fn write_fields(f: Frame) -> u16
+    requires { ⌜ (1 ≤ f .phase) × Fit widths (parts f) ⌝ }
+    ensures { λ r. ⌜ r ≡ wordOf f ⌝ }
+{
+    let kind = put_below(0, 1, f.kind);
+    let round = put_below(kind, 5, f.round);
+    let phase = put_below(round, 1, f.phase - 1);
+    let stage = put_below(phase, 1, f.stage);
+    let value = put_below(stage, 2, f.value);
+    put_below(value, 5, f.sender)
+}
+
+// The field of `width` bits whose lowest is the word's bit `low`.
+fn field(word: u16, low: u32, width: u32) -> u8
+    requires { ⌜ (low < 16) × (width < 9) ⌝ }
+    ensures { λ r. ⌜ r ≡ word / 2 ^ low % 2 ^ width ⌝ }
+{
+    (word >> low & (1 << width) - 1) as u8
+}
+
+// The word moved up by `width` bits, with a field of that width put below it.
+fn put_below(word: u16, width: u32, field: u8) -> u16
+    requires { ⌜ (width < 16) × (field < 2 ^ width) × (word * 2 ^ width + field < 65536) ⌝ }
+    ensures { λ r. ⌜ r ≡ word * 2 ^ width + field ⌝ }
+{
+    word << width | field as u16
+}

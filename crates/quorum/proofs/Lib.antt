@@ -1,0 +1,5 @@
+pub mod Counting
+pub mod Honest
+pub mod Reached
+pub mod Members
+pub mod Unique

@@ -1,0 +1,3 @@
+pub mod World
+pub mod Count
+pub mod Sets

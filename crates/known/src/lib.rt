@@ -1,0 +1,1 @@
+// The known points that are proved: one statement about the definitions, in specs/ and proofs/.

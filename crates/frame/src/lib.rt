@@ -32,14 +32,17 @@ pub enum Packed {
 pub fn unpack(word: u16) -> Unpacked
     ensures { λ r. ⌜ Unpacks word r ⌝ }
 {
-    if field(word, 15, 1) == 1 {
+    let version = field(word, 15, 1);
+    let frame = read_fields(word);
+    let round = bad_round(frame.round);
+    let value = bad_value(frame.value, frame.stage);
+    if version == 1 {
         return Unpacked::Refused(7);
     }
-    let frame = read_fields(word);
-    if bad_round(frame.round) {
+    if round {
         return Unpacked::Refused(8);
     }
-    if bad_value(frame.value, frame.stage) {
+    if value {
         return Unpacked::Refused(9);
     }
     Unpacked::Frame(frame)
@@ -49,13 +52,16 @@ pub fn unpack(word: u16) -> Unpacked
 pub fn pack(frame: Frame) -> Packed
     ensures { λ r. ⌜ Packs frame r ⌝ }
 {
-    if bad_round(frame.round) {
+    let round = bad_round(frame.round);
+    let value = bad_value(frame.value, frame.stage);
+    let layout = bad_layout(frame);
+    if round {
         return Packed::Refused(8);
     }
-    if bad_value(frame.value, frame.stage) {
+    if value {
         return Packed::Refused(9);
     }
-    if bad_layout(frame) {
+    if layout {
         return Packed::Refused(5);
     }
     Packed::Word(write_fields(frame))

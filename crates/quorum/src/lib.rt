@@ -33,10 +33,12 @@ pub fn world_of(n: u32, t: u32) -> World
 pub fn check(world: World) -> Checked
     ensures { λ r. ⌜ Checks world r ⌝ }
 {
-    if bad_hosts(world) {
+    let hosts = bad_hosts(world);
+    let liars = bad_liars(world);
+    if hosts {
         return Checked::Refused(2);
     }
-    if bad_liars(world) {
+    if liars {
         return Checked::Refused(3);
     }
     Checked::Accepted(thresholds_of(world))

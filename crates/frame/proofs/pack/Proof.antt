@@ -8,29 +8,34 @@ use Rattle.frame.proofs.pack.Tie as tie
 
 returns : tie.Need-returns
 unfolding packing
-returns c = simp (← c .before .bad-round .ensures, c .if1 .taken)
+returns c = simp (← c .before .before .before .bad-round .ensures, c .if1 .taken)
 
 returns-2 : tie.Need-returns-2
 unfolding packing
-returns-2 c = simp (← c .before .before .before .bad-round .ensures, c .before .before .if1 .left, ← c .before .bad-value .ensures, c .if2 .taken)
+returns-2 c =
+    let k = c .before .before in
+    simp (← k .before .before .bad-round .ensures, c .before .if1 .left, ← k .before .bad-value .ensures, c .if2 .taken)
 
 returns-3 : tie.Need-returns-3
 unfolding packing
 returns-3 c =
-    simp (← c .before .before .before .before .before .bad-round .ensures, c .before .before .before .before .if1 .left, ← c .before .before .before .bad-value .ensures, c .before .before .if2 .left, ← c .before .bad-layout .ensures, c .if3 .taken)
+    let k = c .before .before .before in
+    simp (← k .before .before .bad-round .ensures, c .before .before .if1 .left, ← k .before .bad-value .ensures, c .before .if2 .left, ← k .bad-layout .ensures, c .if3 .taken)
 
 write-fields-requires : tie.Need-write-fields-requires
 write-fields-requires c κs =
-    writable (c .before .before .before .before .before .before .args .frame) (sym (c .before .before .before .before .before .bad-round .ensures) ∙ c .before .before .before .before .if1 .left)
-    (sym (c .before .before .before .bad-value .ensures) ∙ c .before .before .if2 .left) (sym (c .before .bad-layout .ensures) ∙ c .if3 .left)
+    let k = c .before .before .before in
+    writable (k .before .before .before .args .frame) (sym (k .before .before .bad-round .ensures) ∙ c .before .before .if1 .left)
+    (sym (k .before .bad-value .ensures) ∙ c .before .if2 .left) (sym (k .bad-layout .ensures) ∙ c .if3 .left)
 
 returns-4 : tie.Need-returns-4
 unfolding packing
 returns-4 c =
+    let k = c .before .before .before .before in
     ap accepted (c .write-fields .ensures)
-    ∙ simp (← c .before .before .before .before .before .before .bad-round .ensures, c .before .before .before .before .before .if1 .left, ← c .before .before .before .before .bad-value .ensures, c .before .before .before .if2 .left, ← c .before .before .bad-layout .ensures, c .before .if3 .left)
+    ∙ simp (← k .before .before .bad-round .ensures, c .before .before .before .if1 .left, ← k .before .bad-value .ensures, c .before .before .if2 .left, ← k .bad-layout .ensures, c .before .if3 .left)
 
 pub pack-spec : {M : Type 1} → statement M
 pack-spec =
     tie.close
-    (tie.spec (λ c κs. search needs) returns (λ c κs. search needs) returns-2 (λ c κs. search needs) returns-3 write-fields-requires returns-4)
+    (tie.spec (λ c κs. search needs) (λ c κs. search needs) (λ c κs. search needs) returns returns-2 returns-3 write-fields-requires returns-4)

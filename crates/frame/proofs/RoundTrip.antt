@@ -1,18 +1,18 @@
 -- "Either way back gives the original" (demand 2). Assumes nothing.
-use Prim.Native.Nat.{ℕ, _+_, _-_, _≤_, _<_}
-use mathlib.Core.Path.{_≡_, refl, sym, ap, _∙_}
-use mathlib.Core.Bool.{Bool, false}
-use mathlib.Core.List.{List, [], _∷_}
+use Prim.Native.Nat.{ℕ, _+_, _-_, _^_, _≤_, _<_}
+use mathlib.Core.Path.{_≡_, ap, _∙_}
+use mathlib.Core.Bool.{false}
+use mathlib.Core.List.{List}
 use native.Mathlib.Omega.{arith}
 use lib.Dec.{eqb, ltb}
 use lib.ListN.{getD}
 use borrow.Author.Tests.{le-ltb, ne-eqb, eqb-false}
-use Rattle.answer.specs.Answer.{Answer, refused, accepted, _when_, guarded}
+use Rattle.answer.specs.Answer.{refused, accepted}
 use Rattle.answer.proofs.Guards.{clear, passes, not-both}
-use Rattle.frame.specs.Layout.{fields, joined, Fit}
+use Rattle.frame.specs.Layout.{total, fields, joined, Fit}
 use Rattle.frame.specs.Frame.{widths, field, parts, version, frameOf, wordOf, badRound, badValue, badLayout, unpackGuards, unpacking, packGuards, packing}
 use Rattle.frame.specs.declared.Frame.{Frame}
-use Rattle.frame.proofs.Joining.{join-fields, joined-lt, fields-join}
+use Rattle.frame.proofs.Joining.{join-fields, fields-join}
 use Rattle.frame.proofs.Laws.{writable}
 
 -- the parts of the frame in a word of version 0 are the word's fields
@@ -28,8 +28,8 @@ unfolding frameOf
 laid w =
     simp (le-ltb 31 (field w 6) (omega arith), le-ltb 1 (field w 1) (omega arith), ne-eqb (field w 3 + 1) 0 (λ z. omega arith), le-ltb 2 (field w 3 + 1) (omega arith), le-ltb 1 (field w 4) (omega arith))
 
--- the word that a frame was unpacked from is the word that it packs to
-pub unpack-pack : (w : ℕ) (f : Frame) → w < 65536 → unpacking w ≡ accepted f → packing f ≡ accepted w
+-- the word that a frame was unpacked from is the word that it packs to, for every word of the layout's bits
+pub unpack-pack : (w : ℕ) (f : Frame) → w < 2 ^ total widths → unpacking w ≡ accepted f → packing f ≡ accepted w
 unfolding unpacking packing wordOf
 unpack-pack w f l e =
     let ((v, (r, (n, _))), same) = clear (unpackGuards w) (frameOf w) e in
@@ -56,16 +56,8 @@ pack-unpack f w e =
     let first : eqb (version (wordOf f)) 1 ≡ false = ap (λ (x : ℕ). eqb x 1) v in
     rw same (passes (unpackGuards (wordOf f)) (frameOf (wordOf f)) (first, (rw back r, (rw back n, tt))) ∙ ap accepted back)
 
--- a packed word has version 0, so it is one of the sixteen bits and not of their upper half
-pub packed-lt : (f : Frame) (w : ℕ) → packing f ≡ accepted w → w < 32768
-unfolding packing wordOf
-packed-lt f w e =
-    let ((r, (n, (l, _))), same) = clear (packGuards f) (wordOf f) e in
-    let (p, h) = writable f r n l in
-    omega (arith, joined-lt widths (parts f) h)
-
 -- so what is accepted one way is never refused the other
-pub word-stands : (w : ℕ) (f : Frame) (k : ℕ) → w < 65536 → unpacking w ≡ accepted f → packing f ≡ refused k → ⊥
+pub word-stands : (w : ℕ) (f : Frame) (k : ℕ) → w < 2 ^ total widths → unpacking w ≡ accepted f → packing f ≡ refused k → ⊥
 word-stands w f k l e = not-both (unpack-pack w f l e)
 
 pub frame-stands : (f : Frame) (w k : ℕ) → packing f ≡ accepted w → unpacking w ≡ refused k → ⊥

@@ -34,15 +34,15 @@ pub fn unpack(word: u16) -> Unpacked
 {
     let version = field(word, 15, 1);
     let frame = read_fields(word);
-    let round = bad_round(frame.round);
-    let value = bad_value(frame.value, frame.stage);
+    let no_round = bad_round(frame.round);
+    let no_value = bad_value(frame.value, frame.stage);
     if version == 1 {
         return Unpacked::Refused(7);
     }
-    if round {
+    if no_round {
         return Unpacked::Refused(8);
     }
-    if value {
+    if no_value {
         return Unpacked::Refused(9);
     }
     Unpacked::Frame(frame)
@@ -52,16 +52,16 @@ pub fn unpack(word: u16) -> Unpacked
 pub fn pack(frame: Frame) -> Packed
     ensures { λ r. ⌜ Packs frame r ⌝ }
 {
-    let round = bad_round(frame.round);
-    let value = bad_value(frame.value, frame.stage);
-    let layout = bad_layout(frame);
-    if round {
+    let wrong_round = bad_round(frame.round);
+    let wrong_value = bad_value(frame.value, frame.stage);
+    let wrong_layout = bad_layout(frame);
+    if wrong_round {
         return Packed::Refused(8);
     }
-    if value {
+    if wrong_value {
         return Packed::Refused(9);
     }
-    if layout {
+    if wrong_layout {
         return Packed::Refused(5);
     }
     Packed::Word(write_fields(frame))

@@ -16,7 +16,7 @@ use Rattle.quorum.proofs.Counting.{count-same}
 -- the members but host 0 are those of the halved word, each a number lower
 member-suc : (w j : ℕ) → member (w / 2) j ≡ member w (suc j)
 unfolding member
-member-suc w j = ap (λ (x : ℕ). eqb (x % 2) 1) (shr-shr w 1 j ∙ ap (λ (k : ℕ). w / 2 ^ k) (one-add j))
+member-suc w j = rw (shr-shr w 1 j, one-add j)
 
 bit : (x : ℕ) → x < 2 → x ≡ one (eqb x 1)
 bit zero h = refl

@@ -55,7 +55,7 @@ fn bad_hosts(world: World) -> bool
 fn bad_liars(world: World) -> bool
     ensures { λ r. ⌜ r ≡ badLiars world ⌝ }
 {
-    world.n as u64 <= 3 * (world.t as u64)
+    (world.n as u64) <= 3 * (world.t as u64)
 }
 
 fn thresholds_of(world: World) -> Thresholds

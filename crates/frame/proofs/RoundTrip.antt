@@ -1,16 +1,16 @@
 -- "Either way back gives the original" (demand 2). Assumes nothing.
 use Prim.Native.Nat.{ℕ, _+_, _-_, _^_, _≤_, _<_}
-use mathlib.Core.Path.{_≡_, ap, _∙_}
+use mathlib.Core.Path.{_≡_, refl, ap, _∙_}
 use mathlib.Core.Bool.{false}
 use mathlib.Core.List.{List}
 use native.Mathlib.Omega.{arith}
-use lib.Dec.{eqb, ltb}
+use lib.Dec.{eqb}
 use lib.ListN.{getD}
 use borrow.Author.Tests.{le-ltb, ne-eqb, eqb-false}
 use Rattle.answer.specs.Answer.{refused, accepted}
 use Rattle.answer.proofs.Guards.{clear, passes, not-both}
 use Rattle.frame.specs.Layout.{total, fields, joined, Fit}
-use Rattle.frame.specs.Frame.{widths, field, parts, version, frameOf, wordOf, badRound, badValue, badLayout, unpackGuards, unpacking, packGuards, packing}
+use Rattle.frame.specs.Frame.{widths, field, parts, version, frameOf, wordOf, badLayout, unpackGuards, unpacking, packGuards, packing}
 use Rattle.frame.specs.declared.Frame.{Frame}
 use Rattle.frame.proofs.Joining.{join-fields, fields-join}
 use Rattle.frame.proofs.Laws.{writable}
@@ -62,3 +62,7 @@ word-stands w f k l e = not-both (unpack-pack w f l e)
 
 pub frame-stands : (f : Frame) (w k : ℕ) → packing f ≡ accepted w → unpacking w ≡ refused k → ⊥
 frame-stands f w k e = not-both (pack-unpack f w e)
+
+-- "A frame is sixteen bits"
+pub sixteen : total widths ≡ 16
+sixteen = refl

@@ -32,7 +32,7 @@ pub enum Packed {
 pub fn unpack(word: u16) -> Unpacked
     ensures { λ r. ⌜ Unpacks word r ⌝ }
 {
-    let version = field(word, 15, 1);
+    let version = bits_from(word, 15, 1);
     let frame = read_fields(word);
     let no_round = bad_round(frame.round);
     let no_value = bad_value(frame.value, frame.stage);
@@ -93,12 +93,12 @@ fn read_fields(word: u16) -> Frame
     ensures { λ r. ⌜ r ≡ frameOf word ⌝ }
 {
     Frame {
-        kind: field(word, 14, 1),
-        round: field(word, 9, 5),
-        phase: field(word, 8, 1) + 1,
-        stage: field(word, 7, 1),
-        value: field(word, 5, 2),
-        sender: field(word, 0, 5),
+        kind: bits_from(word, 14, 1),
+        round: bits_from(word, 9, 5),
+        phase: bits_from(word, 8, 1) + 1,
+        stage: bits_from(word, 7, 1),
+        value: bits_from(word, 5, 2),
+        sender: bits_from(word, 0, 5),
     }
 }
 
@@ -115,8 +115,8 @@ fn write_fields(f: Frame) -> u16
     put_below(value, 5, f.sender)
 }
 
-// The field of `width` bits whose lowest is the word's bit `low`.
-fn field(word: u16, low: u32, width: u32) -> u8
+// The `width` bits of a word from its bit `low` up.
+fn bits_from(word: u16, low: u32, width: u32) -> u8
     requires { ⌜ (low < 16) × (width < 9) ⌝ }
     ensures { λ r. ⌜ r ≡ word / 2 ^ low % 2 ^ width ⌝ }
 {

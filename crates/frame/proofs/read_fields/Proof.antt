@@ -6,7 +6,7 @@ use Rattle.frame.proofs.read_fields.Tie as tie
 returns : tie.Need-returns
 unfolding frameOf
 returns c =
-    simp (c .field6 .ensures, c .before .field5 .ensures, c .before .before .field4 .ensures, c .before .before .before .field3 .ensures, c .before .before .before .before .field2 .ensures, c .before .before .before .before .before .field .ensures)
+    simp (c .bits-from6 .ensures, c .before .bits-from5 .ensures, c .before .before .bits-from4 .ensures, c .before .before .before .bits-from3 .ensures, c .before .before .before .before .bits-from2 .ensures, c .before .before .before .before .before .bits-from .ensures)
 
 pub read-fields-spec : {M : Type 1} → statement M
 read-fields-spec =

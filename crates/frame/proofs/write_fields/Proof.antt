@@ -1,4 +1,3 @@
-use mathlib.Core.Path.{_∙_}
 use native.Mathlib.Omega.{arith}
 use Rattle.frame.specs.Frame.{widths, parts, wordOf}
 use Rattle.frame.proofs.Joining.{pushed-joins}

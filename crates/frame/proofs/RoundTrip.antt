@@ -1,6 +1,6 @@
 -- "Either way back gives the original" (demand 2). Assumes nothing.
 use Prim.Native.Nat.{ℕ, _+_, _-_, _^_, _≤_, _<_}
-use mathlib.Core.Path.{_≡_, refl, ap, _∙_}
+use mathlib.Core.Path.{_≡_, refl, sym, ap, _∙_}
 use mathlib.Core.Bool.{false}
 use mathlib.Core.List.{List}
 use native.Mathlib.Omega.{arith}
@@ -10,10 +10,13 @@ use borrow.Author.Tests.{le-ltb, ne-eqb, eqb-false}
 use Rattle.answer.specs.Answer.{refused, accepted}
 use Rattle.answer.proofs.Guards.{clear, passes, not-both}
 use Rattle.frame.specs.Layout.{total, fields, joined, Fit}
-use Rattle.frame.specs.Frame.{widths, field, parts, version, frameOf, wordOf, badLayout, unpackGuards, unpacking, packGuards, packing}
+use Rattle.frame.specs.Frame.{widths, field, parts, version, frameOf, wordOf, badLayout, unpackGuards, unpacking, packGuards, packing, Unpacks, Packs}
 use Rattle.frame.specs.declared.Frame.{Frame}
+use Rattle.frame.specs.declared.Unpacked.{Unpacked}
+use Rattle.frame.specs.declared.Packed.{Packed}
 use Rattle.frame.proofs.Joining.{join-fields, fields-join}
 use Rattle.frame.proofs.Laws.{writable}
+use Rattle.frame.proofs.Unique.{unpacks-once, packs-once}
 
 -- the parts of the frame in a word of version 0 are the word's fields
 parts-of : (w : ℕ) → version w ≡ 0 → parts (frameOf w) ≡ fields widths w
@@ -62,6 +65,13 @@ word-stands w f k l e = not-both (unpack-pack w f l e)
 
 pub frame-stands : (f : Frame) (w k : ℕ) → packing f ≡ accepted w → unpacking w ≡ refused k → ⊥
 frame-stands f w k e = not-both (pack-unpack f w e)
+
+-- the same of the calls themselves, by their promises: what `pack` answers for a frame that `unpack` answered, and the other way
+pub packs-back : (w : ℕ) (f : Frame) (b : Packed) → w < 2 ^ total widths → Unpacks w (Unpacked.Frame f) → Packs f b → b ≡ Packed.Word w
+packs-back w f b l u p = packs-once f b (Packed.Word w) p (sym (unpack-pack w f l (sym u)))
+
+pub unpacks-back : (f : Frame) (w : ℕ) (a : Unpacked) → Packs f (Packed.Word w) → Unpacks w a → a ≡ Unpacked.Frame f
+unpacks-back f w a p u = unpacks-once w a (Unpacked.Frame f) u (sym (pack-unpack f w (sym p)))
 
 -- "A frame is sixteen bits"
 pub sixteen : total widths ≡ 16

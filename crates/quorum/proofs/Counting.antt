@@ -27,6 +27,12 @@ unfolding count
 count-not zero p = refl
 count-not (suc n) p = omega (arith, one-not (p 0), count-not n (λ x. p (suc x)))
 
+-- the last of the hosts counted apart
+pub count-last : (n : ℕ) (p : ℕ → Bool) → count (suc n) p ≡ count n p + one (p n)
+unfolding count
+count-last zero p = omega arith
+count-last (suc n) p = omega (arith, count-last n (λ x. p (suc x)))
+
 -- tests that answer alike count alike
 pub count-same : (n : ℕ) (p q : ℕ → Bool) → ((x : ℕ) → p x ≡ q x) → count n p ≡ count n q
 unfolding count

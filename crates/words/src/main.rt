@@ -1,5 +1,8 @@
 // Unpacks each of the 65,536 words, packs each accepted one again, and prints how many were
 // answered how.
+ghost use mathlib.Core.Path.{_≡_};
+ghost use Rattle.frame.specs.Frame.{unpacking};
+ghost use Rattle.words.specs.Words.{numberOf, tally};
 use frame::Packed;
 use frame::Unpacked;
 use libc::STDOUT_FILENO;
@@ -15,13 +18,16 @@ fn main() {
     );
 }
 
-// How a word is answered: by the number of its refusal, or, where it is accepted, by one of these,
-// which are no refusals of unpacking.
+// An accepted word is answered by one of these, which are no refusals of unpacking.
 const SAME: u8 = 0;
 
 const OTHER: u8 = 1;
 
-fn answer_to(word: u16) -> u8 {
+// How a word is answered: by the number of its refusal, or by what packing makes of its frame. The
+// promise says that this never is OTHER.
+fn answer_to(word: u16) -> u8
+    ensures { λ r. ⌜ r ≡ numberOf (unpacking word) ⌝ }
+{
     match frame::unpack(word) {
         Unpacked::Refused(number) => number,
         Unpacked::Frame(f) => match frame::pack(f) {
@@ -32,7 +38,9 @@ fn answer_to(word: u16) -> u8 {
 }
 
 // How many of all words are answered so.
-fn how_many(answer: u8) -> u32 {
+fn how_many(answer: u8) -> u32
+    ensures { λ r. ⌜ r ≡ tally 65536 answer ⌝ }
+{
     let mut found = 0;
     for word in 0..65536u32 {
         if answer_to(word as u16) == answer {

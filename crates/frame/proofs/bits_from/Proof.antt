@@ -1,3 +1,4 @@
+-- `bits_from` meets its promise: a shift and a mask are a quotient and a remainder. Assumes nothing.
 use Prim.Native.Nat.{_/_, _^_}
 use native.Mathlib.Omega.{arith}
 use native.Mathlib.Nat.{mod-lt, lt-of-lt-of-le}

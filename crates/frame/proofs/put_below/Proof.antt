@@ -1,3 +1,4 @@
+-- `put_below` meets its promise: a shift and an or are a product and a sum. Assumes nothing.
 use borrow.Author.Needs.{needs}
 use Rattle.frame.proofs.Laws.{shl-or}
 use Rattle.frame.proofs.put_below.Statement.{statement}

@@ -1,3 +1,4 @@
+-- `read_fields` meets its promise: each field is its bits. Assumes nothing.
 use borrow.Author.Needs.{needs}
 use Rattle.frame.specs.Frame.{frameOf}
 use Rattle.frame.proofs.read_fields.Statement.{statement}

@@ -1,3 +1,4 @@
+-- `unpack` meets its promise: each return by the tests that led there. Assumes nothing.
 use borrow.Author.Needs.{needs}
 use borrow.Author.Tests.{eq-eqb, ne-eqb}
 use Rattle.frame.specs.Frame.{unpacking}

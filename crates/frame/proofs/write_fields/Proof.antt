@@ -1,3 +1,4 @@
+-- `write_fields` meets its promise: fields put below each other are joined. Assumes nothing.
 use native.Mathlib.Omega.{arith}
 use Rattle.frame.specs.Frame.{widths, parts, wordOf}
 use Rattle.frame.proofs.Joining.{pushed-joins}

@@ -1,3 +1,4 @@
+-- `check` meets its promise: each return by the tests that led there. Assumes nothing.
 use mathlib.Core.Path.{sym, ap, _∙_}
 use native.Mathlib.Omega.{arith}
 use borrow.Author.Needs.{needs}

@@ -1,3 +1,4 @@
+-- `answer_to` meets its promise: where a word is accepted, packing can't give another word or a refusal. Assumes nothing.
 use Prim.Native.Nat.{ℕ}
 use mathlib.Core.Path.{_≡_, ap}
 use native.Mathlib.Omega.{arith}

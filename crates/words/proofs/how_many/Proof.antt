@@ -1,3 +1,4 @@
+-- `how_many` meets its promise: before each word, what was found is the tally of the words below it. Assumes nothing.
 use Prim.Native.Nat.{ℕ, _+_, _-_, _≤_}
 use mathlib.Core.Path.{_≡_, refl}
 use mathlib.Core.Logic.{⊎-elim}

@@ -1,7 +1,7 @@
 -- What an accepted call tells of its guards, and what they tell of it. Assumes nothing.
 use Prim.Native.Nat.{ℕ}
 use mathlib.Core.Path.{_≡_, refl}
-use mathlib.Core.Bool.{Bool, true, false, _||_}
+use mathlib.Core.Bool.{true, false}
 use mathlib.Core.List.{List, [], _∷_}
 use native.Mathlib.Omega.{arith}
 use Rattle.answer.specs.Answer.{Answer, refused, accepted, Guard, _when_, guarded}
@@ -24,8 +24,3 @@ clear ((k when false) ∷ gs) a e = let (c, s) = clear gs a e in ((refl, c), s)
 pub passes : {A : Type 0} (gs : List Guard) (a : A) → Clear gs → guarded gs a ≡ accepted a
 passes [] a c = refl
 passes ((k when b) ∷ gs) a (e, c) = rw e (passes gs a c)
-
--- a condition in two parts that does not hold: neither part does
-pub neither : (a b : Bool) → a || b ≡ false → (a ≡ false) × (b ≡ false)
-neither true b e = (e, cc)
-neither false b e = (refl, e)

@@ -8,7 +8,7 @@ use lib.Bits.{bitAnd, bitOr, and-mask, or-shifted}
 use lib.Dec.{lit<, ltb, eqb}
 use lib.Pow.{shl-exact}
 use borrow.Author.Tests.{ltb-false, eqb-false}
-use Rattle.answer.proofs.Guards.{neither}
+use Rattle.answer.proofs.Tests.{neither}
 use Rattle.frame.specs.Layout.{Fit}
 use Rattle.frame.specs.Frame.{widths, parts, badRound, badValue, badLayout}
 use Rattle.frame.specs.declared.Frame.{Frame}

@@ -16,13 +16,14 @@ use Rattle.frame.specs.declared.Packed.{Packed}
 abbrev pub widths : List ℕ
 widths = 1 ∷ 1 ∷ 5 ∷ 1 ∷ 1 ∷ 2 ∷ 5 ∷ []
 
--- the word's fields, whatever they hold
+-- field i of a word, counted from 0 in that order
 abbrev pub field : ℕ → ℕ → ℕ
 field w i = getD (fields widths w) i 0
 
 abbrev pub version : ℕ → ℕ
 version w = field w 0
 
+-- what the other fields say, whatever they hold
 unfoldable pub frameOf : ℕ → Frame
 frameOf w = record {
   kind = field w 1;
@@ -37,6 +38,7 @@ frameOf w = record {
 abbrev pub parts : Frame → List ℕ
 parts f = 0 ∷ f .kind ∷ f .round ∷ (f .phase - 1) ∷ f .stage ∷ f .value ∷ f .sender ∷ []
 
+-- the word with these fields
 unfoldable pub wordOf : Frame → ℕ
 wordOf f = joined widths (parts f)
 

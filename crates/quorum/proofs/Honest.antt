@@ -1,15 +1,12 @@
 -- Among n hosts of which at most t lie: which sets hold an honest host, and which two share one. The threshold facts, said once, over n, t
 -- and any test on hosts. A set of at least n−t is written n ≤ t + its size. Assumes nothing.
 use Prim.Native.Nat.{ℕ, _+_, _*_, _≤_, _<_}
-use mathlib.Core.Path.{_≡_, refl}
-use mathlib.Core.Bool.{Bool, true, false, not, _&&_}
+use mathlib.Core.Path.{_≡_}
+use mathlib.Core.Bool.{Bool, true, not, _&&_}
 use native.Mathlib.Omega.{arith}
+use Rattle.answer.proofs.Tests.{both}
 use Rattle.quorum.specs.Count.{count}
 use Rattle.quorum.proofs.Counting.{count-and, count-not, count-some}
-
-pub both : (a b : Bool) → a && b ≡ true → (a ≡ true) × (b ≡ true)
-both true b e = (refl, e)
-both false b e = (e, cc)
 
 module _ (n t : ℕ) (honest : ℕ → Bool) (few : count n (λ x. not (honest x)) ≤ t) where
   -- at most t of any set lie

@@ -6,7 +6,8 @@ use native.Mathlib.Omega.{arith}
 use lib.Dec.{ltb}
 use borrow.Author.Tests.{ltb-false, leb-false}
 use Rattle.answer.specs.Answer.{accepted}
-use Rattle.answer.proofs.Guards.{clear, neither}
+use Rattle.answer.proofs.Guards.{clear}
+use Rattle.answer.proofs.Tests.{neither}
 use Rattle.quorum.specs.World.{echoAt, admitAt, viewAt, thresholdsOf, badHosts, badLiars, worldGuards, checking}
 use Rattle.quorum.specs.declared.World.{World}
 use Rattle.quorum.specs.declared.Thresholds.{Thresholds}

@@ -4,7 +4,7 @@
 // has one: nothing panics, wraps or is masked away.
 ghost use Prim.Native.Nat.{_+_, _*_, _/_, _%_, _^_, _≤_, _<_};
 ghost use mathlib.Core.Path.{_≡_};
-ghost use Rattle.frame.specs.Frame.{widths, parts, frameOf, wordOf, badRound, badValue, badLayout, Unpacks, Packs};
+ghost use Rattle.frame.specs.Frame.{widths, parts, version, frameOf, wordOf, badRound, badValue, badLayout, Unpacks, Packs};
 ghost use Rattle.frame.specs.Layout.{Fit};
 
 // What a frame says. Kind: 0 VAL, 1 AUX. Round 1 to 16, phase 1 or 2, stage 0 or 1. Value: 0, 1, or
@@ -32,7 +32,7 @@ pub enum Packed {
 pub fn unpack(word: u16) -> Unpacked
     ensures { λ r. ⌜ Unpacks word r ⌝ }
 {
-    let version = bits_from(word, 15, 1);
+    let version = version_of(word);
     let frame = read_fields(word);
     let no_round = bad_round(frame.round);
     let no_value = bad_value(frame.value, frame.stage);
@@ -88,7 +88,13 @@ fn bad_layout(f: Frame) -> bool
     (31 < f.sender) | (1 < f.kind) | (f.phase == 0) | (2 < f.phase) | (1 < f.stage)
 }
 
-// The fields of a word, whatever they hold.
+fn version_of(word: u16) -> u8
+    ensures { λ r. ⌜ r ≡ version word ⌝ }
+{
+    bits_from(word, 15, 1)
+}
+
+// The other fields of a word, whatever they hold.
 fn read_fields(word: u16) -> Frame
     ensures { λ r. ⌜ r ≡ frameOf word ⌝ }
 {

@@ -17,7 +17,7 @@ pub join-fields : (ks : List ℕ) (w : ℕ) → w < 2 ^ total ks → joined ks (
 join-fields ks w h = within ks w ∙ mod-eq-of-lt h
 
 -- fields that fit make a word of no more bits than the layout
-pub joined-lt : (ks xs : List ℕ) → Fit ks xs → joined ks xs < 2 ^ total ks
+joined-lt : (ks xs : List ℕ) → Fit ks xs → joined ks xs < 2 ^ total ks
 joined-lt [] [] f = omega arith
 joined-lt (k ∷ ks) (x ∷ xs) (h, f) =
     rw (pow-add 2 k (total ks))

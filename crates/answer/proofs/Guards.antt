@@ -1,10 +1,10 @@
 -- What an accepted call tells of its guards, and what they tell of it. Assumes nothing.
 use Prim.Native.Nat.{ℕ}
-use mathlib.Core.Path.{_≡_, refl}
+use mathlib.Core.Path.{_≡_, refl, sym, ap}
 use mathlib.Core.Bool.{true, false}
-use mathlib.Core.List.{List, [], _∷_}
+use mathlib.Core.List.{List, [], _∷_, _++_}
 use native.Mathlib.Omega.{arith}
-use Rattle.answer.specs.Answer.{Answer, refused, accepted, Guard, _when_, guarded}
+use Rattle.answer.specs.Answer.{Answer, refused, accepted, Guard, _when_, past, guarded, lent}
 
 -- no answer is both
 pub not-both : {A : Type 0} {a : A} {k : ℕ} {r : Answer A} → r ≡ accepted a → r ≡ refused k → ⊥
@@ -24,3 +24,19 @@ clear ((k when false) ∷ gs) a e = let (c, s) = clear gs a e in ((refl, c), s)
 pub passes : {A : Type 0} (gs : List Guard) (a : A) → Clear gs → guarded gs a ≡ accepted a
 passes [] a c = refl
 passes ((k when b) ∷ gs) a (e, c) = rw e (passes gs a c)
+
+-- the guards of a call may stand in two parts: what the first part refuses is refused, and past it the second part is asked
+pub stops : {A B : Type 0} (gs hs : List Guard) (a : A) (x : Answer B) {k : ℕ} → guarded gs a ≡ refused k → past (gs ++ hs) x ≡ refused k
+stops [] hs a x e = absurd (not-both refl e)
+stops ((k when true) ∷ gs) hs a x e = cc
+stops ((k when false) ∷ gs) hs a x e = stops gs hs a x e
+
+pub goes-on : {A B : Type 0} (gs hs : List Guard) (a : A) (x : Answer B) {b : A} → guarded gs a ≡ accepted b → past (gs ++ hs) x ≡ past hs x
+goes-on [] hs a x e = refl
+goes-on ((k when true) ∷ gs) hs a x e = absurd (not-both e refl)
+goes-on ((k when false) ∷ gs) hs a x e = goes-on gs hs a x e
+
+-- a refused call leaves what it was lent
+pub leaves : {A M : Type 0} (before after : M) (a : Answer (A × M)) {k : ℕ} → lent before a ≡ (refused k, after) → after ≡ before
+leaves before after (refused j) e = sym (ap (λ x. x .1) e)
+leaves before after (accepted (a, m)) e = absurd (not-both refl (ap (λ x. x .0) e))

@@ -13,7 +13,17 @@ infix 20 _when_
 pub data Guard : Type 0 where
   _when_ : ℕ → Bool → Guard
 
--- the first guard whose condition holds gives its number; past them all, the call is accepted
+-- the first guard whose condition holds gives its number; past them all, the call answers what stands behind them
+abbrev pub past : {A : Type 0} → List Guard → Answer A → Answer A
+past [] a = a
+past ((k when b) ∷ gs) a = cond b (refused k) (past gs a)
+
+-- past all of its guards, the call is accepted
 abbrev pub guarded : {A : Type 0} → List Guard → A → Answer A
-guarded [] a = accepted a
-guarded ((k when b) ∷ gs) a = cond b (refused k) (guarded gs a)
+guarded gs a = past gs (accepted a)
+
+-- what a call on lent memory answers and leaves there. "A refused call returns its number only", and "when it refuses changes no record, no
+-- table, no byte or word lent to it": it leaves what was there before
+abbrev pub lent : {A M : Type 0} → M → Answer (A × M) → Answer A × M
+lent before (refused k) = (refused k, before)
+lent before (accepted (a, after)) = (accepted a, after)

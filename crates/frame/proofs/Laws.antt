@@ -10,7 +10,7 @@ use lib.Pow.{shl-exact}
 use borrow.Author.Tests.{ltb-false, eqb-false}
 use Rattle.answer.proofs.Tests.{neither}
 use Rattle.frame.specs.Layout.{Fit}
-use Rattle.frame.specs.Frame.{widths, parts, badRound, badValue, badLayout}
+use Rattle.frame.specs.Frame.{widths, parts, badRound, badValue, unnamed, tooLarge}
 use Rattle.frame.specs.declared.Frame.{Frame}
 
 -- `1 << k` within sixteen bits
@@ -28,19 +28,17 @@ shl-or x k y l h =
     ap (λ (p : ℕ). bitOr p y) (mod-eq-of-lt whole) ∙ or-shifted x k y l
 
 -- a frame that nothing refuses has a phase, and each part fits its field
-pub writable : (f : Frame) → badRound (f .round) ≡ false → badValue (f .value) (f .stage) ≡ false → badLayout f ≡ false
+pub writable : (f : Frame) → badRound (f .round) ≡ false → badValue (f .value) (f .stage) ≡ false → unnamed f ≡ false → tooLarge f ≡ false
     → (1 ≤ f .phase) × Fit widths (parts f)
-writable f r v l =
-    let sender = ltb 31 (f .sender) in
+writable f r v u l =
     let kind = ltb 1 (f .kind) in
     let none = eqb (f .phase) 0 in
     let phase = ltb 2 (f .phase) in
     let stage = ltb 1 (f .stage) in
-    let a = neither (sender || kind || none || phase) stage l in
-    let b = neither (sender || kind || none) phase (a .0) in
-    let c = neither (sender || kind) none (b .0) in
-    let d = neither sender kind (c .0) in
+    let a = neither (kind || none || phase) stage u in
+    let b = neither (kind || none) phase (a .0) in
+    let c = neither kind none (b .0) in
     let some = eqb-false (f .phase) 0 (c .1) in
     let round : f .round < 32 = omega (arith, ltb-false 16 (f .round) (neither (eqb (f .round) 0) (ltb 16 (f .round)) r .1)) in
     let value : f .value < 4 = omega (arith, ltb-false 2 (f .value) (neither (ltb 2 (f .value)) (eqb (f .value) 2 && eqb (f .stage) 0) v .0)) in
-    omega (arith, ltb-false 31 (f .sender) (d .0), ltb-false 1 (f .kind) (d .1), ltb-false 2 (f .phase) (b .1), ltb-false 1 (f .stage) (a .1))
+    omega (arith, ltb-false 31 (f .sender) l, ltb-false 1 (f .kind) (c .0), ltb-false 2 (f .phase) (b .1), ltb-false 1 (f .stage) (a .1))

@@ -10,7 +10,7 @@ use borrow.Author.Tests.{le-ltb, ne-eqb, eqb-false}
 use Rattle.answer.specs.Answer.{refused, accepted}
 use Rattle.answer.proofs.Guards.{clear, passes, not-both}
 use Rattle.frame.specs.Layout.{total, fields, joined, Fit}
-use Rattle.frame.specs.Frame.{widths, field, parts, version, frameOf, wordOf, badLayout, unpackGuards, unpacking, packGuards, packing, Unpacks, Packs}
+use Rattle.frame.specs.Frame.{widths, field, parts, version, frameOf, wordOf, unnamed, tooLarge, unpackGuards, unpacking, packGuards, packing, Unpacks, Packs}
 use Rattle.frame.specs.declared.Frame.{Frame}
 use Rattle.frame.specs.declared.Unpacked.{Unpacked}
 use Rattle.frame.specs.declared.Packed.{Packed}
@@ -26,10 +26,12 @@ parts-of w v =
     simp (v, p)
 
 -- no word's fields are out of the layout
-laid : (w : ℕ) → badLayout (frameOf w) ≡ false
+laid : (w : ℕ) → (unnamed (frameOf w) ≡ false) × (tooLarge (frameOf w) ≡ false)
 unfolding frameOf
 laid w =
-    simp (le-ltb 31 (field w 6) (omega arith), le-ltb 1 (field w 1) (omega arith), ne-eqb (field w 3 + 1) 0 (λ z. omega arith), le-ltb 2 (field w 3 + 1) (omega arith), le-ltb 1 (field w 4) (omega arith))
+    let named : unnamed (frameOf w) ≡ false =
+        simp (le-ltb 1 (field w 1) (omega arith), ne-eqb (field w 3 + 1) 0 (λ z. omega arith), le-ltb 2 (field w 3 + 1) (omega arith), le-ltb 1 (field w 4) (omega arith)) in
+    (named, le-ltb 31 (field w 6) (omega arith))
 
 -- the word that a frame was unpacked from is the word that it packs to, for every word of the layout's bits
 pub unpack-pack : (w : ℕ) (f : Frame) → w < 2 ^ total widths → unpacking w ≡ accepted f → packing f ≡ accepted w
@@ -38,7 +40,7 @@ unpack-pack w f l e =
     let ((v, (r, (n, _))), same) = clear (unpackGuards w) (frameOf w) e in
     let not-1 = eqb-false (version w) 1 v in
     let back : wordOf (frameOf w) ≡ w = ap (joined widths) (parts-of w (omega arith)) ∙ join-fields widths w l in
-    rw same (passes (packGuards (frameOf w)) (wordOf (frameOf w)) (r, (n, (laid w, tt))) ∙ ap accepted back)
+    rw same (passes (packGuards (frameOf w)) (wordOf (frameOf w)) (r, (n, (laid w .0, (laid w .1, tt)))) ∙ ap accepted back)
 
 -- the fields of a frame's word are the frame's own
 frame-of : (f : Frame) → 1 ≤ f .phase → Fit widths (parts f) → (frameOf (wordOf f) ≡ f) × (version (wordOf f) ≡ 0)
@@ -53,8 +55,8 @@ frame-of f p h =
 pub pack-unpack : (f : Frame) (w : ℕ) → packing f ≡ accepted w → unpacking w ≡ accepted f
 unfolding unpacking packing
 pack-unpack f w e =
-    let ((r, (n, (l, _))), same) = clear (packGuards f) (wordOf f) e in
-    let (p, h) = writable f r n l in
+    let ((r, (n, (u, (l, _)))), same) = clear (packGuards f) (wordOf f) e in
+    let (p, h) = writable f r n u l in
     let (back, v) = frame-of f p h in
     let first : eqb (version (wordOf f)) 1 ≡ false = ap (λ (x : ℕ). eqb x 1) v in
     rw same (passes (unpackGuards (wordOf f)) (frameOf (wordOf f)) (first, (rw back r, (rw back n, tt))) ∙ ap accepted back)

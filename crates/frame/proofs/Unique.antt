@@ -3,9 +3,10 @@ use Prim.Native.Nat.{ℕ}
 use mathlib.Core.Path.{_≡_, refl}
 use Rattle.answer.specs.Answer.{Answer, refused, accepted}
 use Rattle.answer.proofs.Once.{once}
-use Rattle.frame.specs.Frame.{unpacking, packing, unpackedSays, packedSays, Unpacks, Packs}
+use Rattle.frame.specs.Frame.{unpacking, judging, packing, unpackedSays, soundSays, packedSays, Unpacks, Judges, Packs}
 use Rattle.frame.specs.declared.Frame.{Frame}
 use Rattle.frame.specs.declared.Unpacked.{Unpacked}
+use Rattle.frame.specs.declared.Sound.{Sound}
 use Rattle.frame.specs.declared.Packed.{Packed}
 
 unpacked : Answer Frame → Unpacked
@@ -19,6 +20,18 @@ unpacked-says (Unpacked.Refused k) = refl
 
 pub unpacks-once : (w : ℕ) (a b : Unpacked) → Unpacks w a → Unpacks w b → a ≡ b
 unpacks-once w = once unpackedSays unpacked unpacked-says (unpacking w)
+
+sound : Answer Unit → Sound
+sound (accepted u) = Sound.Yes
+sound (refused k) = Sound.Refused k
+
+sound-says : (a : Sound) → sound (soundSays a) ≡ a
+unfolding sound
+sound-says Sound.Yes = refl
+sound-says (Sound.Refused k) = refl
+
+pub judges-once : (f : Frame) (a b : Sound) → Judges f a → Judges f b → a ≡ b
+judges-once f = once soundSays sound sound-says (judging f)
 
 packed : Answer ℕ → Packed
 packed (accepted w) = Packed.Word w

@@ -3,7 +3,7 @@
 use Prim.Native.Nat.{ℕ, _+_, _-_}
 use mathlib.Core.Path.{_≡_}
 use mathlib.Core.Bool.{Bool, _&&_, _||_}
-use mathlib.Core.List.{List, [], _∷_}
+use mathlib.Core.List.{List, [], _∷_, _++_}
 use lib.Dec.{ltb, eqb}
 use lib.ListN.{getD}
 use Rattle.answer.specs.Answer.{Answer, refused, accepted, Guard, _when_, guarded}
@@ -11,6 +11,7 @@ use Rattle.frame.specs.Layout.{fields, joined}
 use Rattle.frame.specs.declared.Frame.{Frame}
 use Rattle.frame.specs.declared.Unpacked.{Unpacked}
 use Rattle.frame.specs.declared.Packed.{Packed}
+use Rattle.frame.specs.declared.Sound.{Sound}
 
 -- "version 1 bit (0); kind 1 (0 VAL, 1 AUX); round 5; phase minus 1, 1 bit; stage 1; value 2 (0, 1, 2 for "neither", 3 unused); sender 5"
 abbrev pub widths : List ℕ
@@ -50,9 +51,13 @@ badRound round = eqb round 0 || ltb 16 round
 abbrev pub badValue : ℕ → ℕ → Bool
 badValue value stage = ltb 2 value || (eqb value 2 && eqb stage 0)
 
--- packing's 5: "a sender too large for its bits in the layout (here above 31) or a kind, phase or stage that the layout doesn't name"
-abbrev pub badLayout : Frame → Bool
-badLayout f = ltb 31 (f .sender) || ltb 1 (f .kind) || eqb (f .phase) 0 || ltb 2 (f .phase) || ltb 1 (f .stage)
+-- 5: "a kind, phase or stage that the layout doesn't name"
+abbrev pub unnamed : Frame → Bool
+unnamed f = ltb 1 (f .kind) || eqb (f .phase) 0 || ltb 2 (f .phase) || ltb 1 (f .stage)
+
+-- packing's other 5: "a sender too large for its bits in the layout (here above 31)"
+abbrev pub tooLarge : Frame → Bool
+tooLarge f = ltb 31 (f .sender)
 
 -- "Unpacking a frame checks 7, 8, 9"
 abbrev pub unpackGuards : ℕ → List Guard
@@ -62,17 +67,28 @@ unpackGuards w =
 unfoldable pub unpacking : ℕ → Answer Frame
 unpacking w = guarded (unpackGuards w) (frameOf w)
 
+-- what a frame can't say to anyone, whoever sends it: "8, then 9, by the table's conditions, then 5"
+abbrev pub frameGuards : Frame → List Guard
+frameGuards f = (8 when badRound (f .round)) ∷ (9 when badValue (f .value) (f .stage)) ∷ (5 when unnamed f) ∷ []
+
+unfoldable pub judging : Frame → Answer Unit
+judging f = guarded (frameGuards f) tt
+
 -- "Packing gives 8, then 9, by the table's conditions, then 5"
 abbrev pub packGuards : Frame → List Guard
-packGuards f = (8 when badRound (f .round)) ∷ (9 when badValue (f .value) (f .stage)) ∷ (5 when badLayout f) ∷ []
+packGuards f = frameGuards f ++ (5 when tooLarge f) ∷ []
 
 unfoldable pub packing : Frame → Answer ℕ
 packing f = guarded (packGuards f) (wordOf f)
 
--- document 01's number and values, for every case of the two enums
+-- document 01's number and values, for every case of the three enums
 abbrev pub unpackedSays : Unpacked → Answer Frame
 unpackedSays (Unpacked.Frame f) = accepted f
 unpackedSays (Unpacked.Refused k) = refused k
+
+abbrev pub soundSays : Sound → Answer Unit
+soundSays Sound.Yes = accepted tt
+soundSays (Sound.Refused k) = refused k
 
 abbrev pub packedSays : Packed → Answer ℕ
 packedSays (Packed.Word w) = accepted w
@@ -85,3 +101,7 @@ Unpacks word answer = unpackedSays answer ≡ unpacking word
 -- the promise of `pack`
 abbrev pub Packs : Frame → Packed → Type 0
 Packs frame answer = packedSays answer ≡ packing frame
+
+-- the promise of `check`
+abbrev pub Judges : Frame → Sound → Type 0
+Judges frame answer = soundSays answer ≡ judging frame

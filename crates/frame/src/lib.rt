@@ -1,10 +1,10 @@
 // The wire's sixteen bits: a frame is unpacked from a word and packed into one, by shifts and masks.
 //
-// Both calls take every value of their parameter's type and answer document 01's refusal where it
+// The calls take every value of their parameter's type and answer document 01's refusal where it
 // has one: nothing panics, wraps or is masked away.
 ghost use Prim.Native.Nat.{_+_, _*_, _/_, _%_, _^_, _≤_, _<_};
 ghost use mathlib.Core.Path.{_≡_};
-ghost use Rattle.frame.specs.Frame.{widths, parts, version, frameOf, wordOf, badRound, badValue, badLayout, Unpacks, Packs};
+ghost use Rattle.frame.specs.Frame.{widths, parts, version, frameOf, wordOf, badRound, badValue, unnamed, Unpacks, Judges, Packs};
 ghost use Rattle.frame.specs.Layout.{Fit};
 
 // What a frame says. Kind: 0 VAL, 1 AUX. Round 1 to 16, phase 1 or 2, stage 0 or 1. Value: 0, 1, or
@@ -20,6 +20,11 @@ pub struct Frame {
 
 pub enum Unpacked {
     Frame(Frame),
+    Refused(u8),
+}
+
+pub enum Sound {
+    Yes,
     Refused(u8),
 }
 
@@ -48,20 +53,34 @@ pub fn unpack(word: u16) -> Unpacked
     Unpacked::Frame(frame)
 }
 
+// Whether a frame can be said at all, whoever its sender is: refusals 8, 9, 5.
+pub fn check(frame: Frame) -> Sound
+    ensures { λ r. ⌜ Judges frame r ⌝ }
+{
+    let wrong_round = bad_round(frame.round);
+    let wrong_value = bad_value(frame.value, frame.stage);
+    let wrong_name = no_name(frame);
+    if wrong_round {
+        return Sound::Refused(8);
+    }
+    if wrong_value {
+        return Sound::Refused(9);
+    }
+    if wrong_name {
+        return Sound::Refused(5);
+    }
+    Sound::Yes
+}
+
 // The word that holds a frame: refusals 8, 9, 5.
 pub fn pack(frame: Frame) -> Packed
     ensures { λ r. ⌜ Packs frame r ⌝ }
 {
-    let wrong_round = bad_round(frame.round);
-    let wrong_value = bad_value(frame.value, frame.stage);
-    let wrong_layout = bad_layout(frame);
-    if wrong_round {
-        return Packed::Refused(8);
+    let sound = check(frame);
+    if let Sound::Refused(number) = sound {
+        return Packed::Refused(number);
     }
-    if wrong_value {
-        return Packed::Refused(9);
-    }
-    if wrong_layout {
+    if 31 < frame.sender {
         return Packed::Refused(5);
     }
     Packed::Word(write_fields(frame))
@@ -81,11 +100,11 @@ fn bad_value(value: u8, stage: u8) -> bool
     (2 < value) | ((value == 2) & (stage == 0))
 }
 
-// 5 of packing: what the layout has no bits or no name for.
-fn bad_layout(f: Frame) -> bool
-    ensures { λ r. ⌜ r ≡ badLayout f ⌝ }
+// 5: a kind, a phase or a stage that has no name.
+fn no_name(f: Frame) -> bool
+    ensures { λ r. ⌜ r ≡ unnamed f ⌝ }
 {
-    (31 < f.sender) | (1 < f.kind) | (f.phase == 0) | (2 < f.phase) | (1 < f.stage)
+    (1 < f.kind) | (f.phase == 0) | (2 < f.phase) | (1 < f.stage)
 }
 
 fn version_of(word: u16) -> u8

@@ -1,42 +1,49 @@
--- `pack` meets its promise: each return by the tests that led there. Assumes nothing.
+-- `pack` meets its promise: what `check` refuses, then the sender, then the word. Assumes nothing.
 use mathlib.Core.Path.{sym, ap, _∙_}
+use mathlib.Core.List.{[], _∷_}
+use lib.Dec.{ltb}
 use borrow.Author.Needs.{needs}
-use Rattle.answer.specs.Answer.{accepted}
-use Rattle.frame.specs.Frame.{packing}
+use borrow.Author.Tests.{lt-ltb, le-ltb}
+use Rattle.answer.specs.Answer.{accepted, _when_}
+use Rattle.answer.proofs.Guards.{clear, stops, goes-on}
+use Rattle.frame.specs.Frame.{frameGuards, soundSays, judging, packing, wordOf, tooLarge}
 use Rattle.frame.proofs.Laws.{writable}
 use Rattle.frame.proofs.pack.Statement.{statement}
 use Rattle.frame.proofs.pack.Tie as tie
 
 returns : tie.Need-returns
-unfolding packing
-returns c = simp (← c .before .before .before .bad-round .ensures, c .if1 .taken)
+unfolding packing judging
+returns c =
+    let k = c .before .before .before in
+    let f = k .before .args .frame in
+    sym (stops (frameGuards f) ((5 when tooLarge f) ∷ []) tt (accepted (wordOf f)) (sym (k .check .ensures) ∙ ap soundSays (c .before .sound .given .1)))
 
 returns-2 : tie.Need-returns-2
-unfolding packing
+unfolding packing judging
 returns-2 c =
-    let k = c .before .before in
-    simp (← k .before .before .bad-round .ensures, c .before .if1 .left, ← k .before .bad-value .ensures, c .if2 .taken)
-
-returns-3 : tie.Need-returns-3
-unfolding packing
-returns-3 c =
-    let k = c .before .before .before in
-    simp (← k .before .before .bad-round .ensures, c .before .before .if1 .left, ← k .before .bad-value .ensures, c .before .if2 .left, ← k .bad-layout .ensures, c .if3 .taken)
+    let k = c .before .before .before .before in
+    let f = k .before .args .frame in
+    sym (goes-on (frameGuards f) ((5 when tooLarge f) ∷ []) tt (accepted (wordOf f)) (sym (k .check .ensures) ∙ ap soundSays (c .before .before .enum-told .given .1))
+    ∙ simp (lt-ltb _ _ (c .if1 .taken)))
 
 write-fields-requires : tie.Need-write-fields-requires
+unfolding judging
 write-fields-requires c κs =
-    let k = c .before .before .before in
-    writable (k .before .before .before .args .frame) (sym (k .before .before .bad-round .ensures) ∙ c .before .before .if1 .left)
-    (sym (k .before .bad-value .ensures) ∙ c .before .if2 .left) (sym (k .bad-layout .ensures) ∙ c .if3 .left)
-
-returns-4 : tie.Need-returns-4
-unfolding packing
-returns-4 c =
     let k = c .before .before .before .before in
+    let f = k .before .args .frame in
+    let ((r, (v, (u, _))), _) = clear (frameGuards f) tt (sym (k .check .ensures) ∙ ap soundSays (c .before .before .enum-told .given .1)) in
+    writable f r v u (le-ltb _ _ (c .if1 .left))
+
+returns-3 : tie.Need-returns-3
+unfolding packing judging
+returns-3 c =
+    let k = c .before .before .before .before .before in
+    let f = k .before .args .frame in
     ap accepted (c .write-fields .ensures)
-    ∙ simp (← k .before .before .bad-round .ensures, c .before .before .before .if1 .left, ← k .before .bad-value .ensures, c .before .before .if2 .left, ← k .bad-layout .ensures, c .before .if3 .left)
+    ∙ sym (goes-on (frameGuards f) ((5 when tooLarge f) ∷ []) tt (accepted (wordOf f)) (sym (k .check .ensures) ∙ ap soundSays (c .before .before .before .enum-told .given .1))
+    ∙ simp (le-ltb _ _ (c .before .if1 .left)))
 
 pub pack-spec : {M : Type 1} → statement M
 pack-spec =
     tie.close
-    (tie.spec (λ c κs. search needs) (λ c κs. search needs) (λ c κs. search needs) returns returns-2 returns-3 write-fields-requires returns-4)
+    (tie.spec (λ c κs. search needs) (λ c. search needs) returns (λ c. search needs) returns-2 write-fields-requires returns-3)

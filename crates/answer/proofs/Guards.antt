@@ -1,6 +1,6 @@
 -- What an accepted call tells of its guards, and what they tell of it. Assumes nothing.
 use Prim.Native.Nat.{ℕ}
-use mathlib.Core.Path.{_≡_, refl, sym, ap}
+use mathlib.Core.Path.{_≡_, refl, sym, ap, _∙_}
 use mathlib.Core.Bool.{true, false}
 use mathlib.Core.List.{List, [], _∷_, _++_}
 use native.Mathlib.Omega.{arith}
@@ -25,16 +25,29 @@ pub passes : {A : Type 0} (gs : List Guard) (a : A) → Clear gs → guarded gs 
 passes [] a c = refl
 passes ((k when b) ∷ gs) a (e, c) = rw e (passes gs a c)
 
+-- what guards refuse does not depend on what stands behind them
+pub refuses : {A B : Type 0} (gs : List Guard) (a : A) (x : Answer B) {k : ℕ} → guarded gs a ≡ refused k → past gs x ≡ refused k
+refuses [] a x e = absurd (not-both refl e)
+refuses ((k when true) ∷ gs) a x e = cc
+refuses ((k when false) ∷ gs) a x e = refuses gs a x e
+
+-- nor what they let pass
+pub lets : {A B : Type 0} (gs : List Guard) (a : A) (x : Answer B) {b : A} → guarded gs a ≡ accepted b → past gs x ≡ x
+lets [] a x e = refl
+lets ((k when true) ∷ gs) a x e = absurd (not-both e refl)
+lets ((k when false) ∷ gs) a x e = lets gs a x e
+
 -- the guards of a call may stand in two parts: what the first part refuses is refused, and past it the second part is asked
+in-parts : {B : Type 0} (gs hs : List Guard) (x : Answer B) → past (gs ++ hs) x ≡ past gs (past hs x)
+in-parts [] hs x = refl
+in-parts ((k when true) ∷ gs) hs x = refl
+in-parts ((k when false) ∷ gs) hs x = in-parts gs hs x
+
 pub stops : {A B : Type 0} (gs hs : List Guard) (a : A) (x : Answer B) {k : ℕ} → guarded gs a ≡ refused k → past (gs ++ hs) x ≡ refused k
-stops [] hs a x e = absurd (not-both refl e)
-stops ((k when true) ∷ gs) hs a x e = cc
-stops ((k when false) ∷ gs) hs a x e = stops gs hs a x e
+stops gs hs a x e = in-parts gs hs x ∙ refuses gs a (past hs x) e
 
 pub goes-on : {A B : Type 0} (gs hs : List Guard) (a : A) (x : Answer B) {b : A} → guarded gs a ≡ accepted b → past (gs ++ hs) x ≡ past hs x
-goes-on [] hs a x e = refl
-goes-on ((k when true) ∷ gs) hs a x e = absurd (not-both e refl)
-goes-on ((k when false) ∷ gs) hs a x e = goes-on gs hs a x e
+goes-on gs hs a x e = in-parts gs hs x ∙ lets gs a (past hs x) e
 
 -- a refused call leaves what it was lent
 pub leaves : {A M : Type 0} (before after : M) (a : Answer (A × M)) {k : ℕ} → lent before a ≡ (refused k, after) → after ≡ before

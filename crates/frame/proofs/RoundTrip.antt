@@ -30,7 +30,7 @@ laid : (w : ℕ) → (unnamed (frameOf w) ≡ false) × (tooLarge (frameOf w) �
 unfolding frameOf
 laid w =
     let named : unnamed (frameOf w) ≡ false =
-        simp (le-ltb 1 (field w 1) (omega arith), ne-eqb (field w 3 + 1) 0 (λ z. omega arith), le-ltb 2 (field w 3 + 1) (omega arith), le-ltb 1 (field w 4) (omega arith)) in
+    simp (le-ltb 1 (field w 1) (omega arith), ne-eqb (field w 3 + 1) 0 (λ z. omega arith), le-ltb 2 (field w 3 + 1) (omega arith), le-ltb 1 (field w 4) (omega arith)) in
     (named, le-ltb 31 (field w 6) (omega arith))
 
 -- the word that a frame was unpacked from is the word that it packs to, for every word of the layout's bits

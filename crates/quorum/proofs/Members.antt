@@ -13,7 +13,7 @@ use Rattle.quorum.specs.Sets.{member, size}
 use Rattle.quorum.proofs.Counting.{count-same}
 
 -- the members but host 0 are those of the halved word, each a number lower
-member-suc : (w j : ℕ) → member (w / 2) j ≡ member w (suc j)
+pub member-suc : (w j : ℕ) → member (w / 2) j ≡ member w (suc j)
 unfolding member
 member-suc w j = rw (shr-shr w 1 j, one-add j)
 

@@ -1,6 +1,7 @@
 -- A set of hosts as a word, of any width: host j is a member where bit j is one.
 use Prim.Native.Nat.{ℕ, _/_, _%_, _^_}
 use mathlib.Core.Bool.{Bool}
+use lib.Bits.{bitOr}
 use lib.Count.{ones}
 use lib.Dec.{eqb}
 
@@ -10,3 +11,11 @@ member set j = eqb (set / 2 ^ j % 2) 1
 -- "The size of a sender set is its number of ones": what `count_ones` of the machine's word gives
 abbrev pub size : ℕ → ℕ
 size set = ones set
+
+-- the set with host j added
+unfoldable pub add : ℕ → ℕ → ℕ
+add set j = bitOr set (2 ^ j)
+
+-- the hosts that are in one set or the other
+abbrev pub union : ℕ → ℕ → ℕ
+union a b = bitOr a b

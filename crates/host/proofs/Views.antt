@@ -1,0 +1,207 @@
+-- What a view makes of a host's record: document 01's "After the view", each of its sentences. Assumes nothing.
+use Prim.Native.Nat.{ℕ, _+_}
+use mathlib.Core.Path.{_≡_, refl, sym, _∙_}
+use mathlib.Core.Bool.{Bool, true, false, cond, _&&_}
+use native.Mathlib.Omega.{arith}
+use lib.Dec.{eqb}
+use borrow.Author.Tests.{eqb-true, eqb-false, eq-eqb, ne-eqb}
+use Rattle.answer.proofs.Tests.{both}
+use Rattle.quorum.specs.Sets.{member}
+use Rattle.host.specs.Record.{coin, moved, stood}
+use Rattle.host.specs.View.{only, afterFirst, phaseEstimate, afterPhase, decided, roundEstimate, afterRound, afterView}
+use Rattle.host.specs.declared.Host.{Host}
+
+-- ---- Views of one value
+
+only-go : (P : ℕ → ℕ → Type 0) (view : ℕ) (a b : Bool) → eqb view 1 ≡ a → eqb view 2 ≡ b → P 1 0 → P 2 1
+    → ((view ≡ 1 → ⊥) → (view ≡ 2 → ⊥) → P view 2) → P view (cond a 0 (cond b 1 2))
+only-go P view true b p q one two else = rw (eqb-true view 1 p) one
+only-go P view false true p q one two else = rw (eqb-true view 2 q) two
+only-go P view false false p q one two else = else (eqb-false view 1 p) (eqb-false view 2 q)
+
+-- the three cases of `only`: {0}, {1} and all else
+by-only : (P : ℕ → ℕ → Type 0) (view : ℕ) → P 1 0 → P 2 1 → ((view ≡ 1 → ⊥) → (view ≡ 2 → ⊥) → P view 2) → P view (only view)
+unfolding only
+by-only P view = only-go P view (eqb view 1) (eqb view 2) refl refl
+
+-- a view whose one value is 0, and one whose one value is 1
+pub only-single : (view : ℕ) → (only view ≡ 0 → view ≡ 1) × (only view ≡ 1 → view ≡ 2)
+only-single view =
+    by-only (λ v o. (o ≡ 0 → v ≡ 1) × (o ≡ 1 → v ≡ 2)) view (omega arith) (omega arith) (λ p q. omega arith)
+
+-- a view of one value 0 or 1 does not hold both
+not-two : (view : ℕ) → (only view ≡ 2 → ⊥) → member view 0 && member view 1 ≡ false
+unfolding member
+not-two view = by-only (λ v o. (o ≡ 2 → ⊥) → member v 0 && member v 1 ≡ false) view (λ n. refl) (λ n. refl) (λ p q n. absurd (n refl))
+
+-- it holds its value
+holds-only : (view est : ℕ) → (only view ≡ 2 → ⊥) → roundEstimate view est ≡ only view
+unfolding member roundEstimate
+holds-only view est = by-only (λ v o. (o ≡ 2 → ⊥) → roundEstimate v est ≡ o) view (λ n. refl) (λ n. refl) (λ p q n. absurd (n refl))
+
+-- a view with neither 0 nor 1 is not of one such value
+pub only-none : (view : ℕ) → member view 0 ≡ false → member view 1 ≡ false → only view ≡ 2
+unfolding member
+only-none view = by-only (λ v o. member v 0 ≡ false → member v 1 ≡ false → o ≡ 2) view (λ a b. clash a) (λ a b. clash b) (λ p q a b. refl)
+  where
+    clash : {n m : ℕ} → true ≡ false → n ≡ m
+    clash e = cc
+
+-- ---- Cases
+
+view-go : (P : Host → Type 0) (h a b c d : Host) (m n : Bool) (x y z : Bool) → eqb (h .stage) 0 ≡ x → m && n ≡ y → eqb (h .phase) 1 ≡ z
+    → (h .stage ≡ 0 → P a)
+    → ((h .stage ≡ 0 → ⊥) → m ≡ true → n ≡ true → P b)
+    → ((h .stage ≡ 0 → ⊥) → h .phase ≡ 1 → P c)
+    → ((h .stage ≡ 0 → ⊥) → (h .phase ≡ 1 → ⊥) → P d)
+    → P (cond x a (cond y b (cond z c d)))
+view-go P h a b c d m n true y z ex ey ez fa fb fc fd = fa (eqb-true (h .stage) 0 ex)
+view-go P h a b c d m n false true z ex ey ez fa fb fc fd = let (l, r) = both m n ey in fb (eqb-false (h .stage) 0 ex) l r
+view-go P h a b c d m n false false true ex ey ez fa fb fc fd = fc (eqb-false (h .stage) 0 ex) (eqb-true (h .phase) 1 ez)
+view-go P h a b c d m n false false false ex ey ez fa fb fc fd = fd (eqb-false (h .stage) 0 ex) (eqb-false (h .phase) 1 ez)
+
+-- the four cases of a view: stage 0, both 0 and 1 in stage 1, phase 1, phase 2
+by-view : (P : Host → Type 0) (h : Host) (view : ℕ)
+    → (h .stage ≡ 0 → P (afterFirst h view))
+    → ((h .stage ≡ 0 → ⊥) → member view 0 ≡ true → member view 1 ≡ true → P (stood h 2))
+    → ((h .stage ≡ 0 → ⊥) → h .phase ≡ 1 → P (afterPhase h (phaseEstimate h view)))
+    → ((h .stage ≡ 0 → ⊥) → (h .phase ≡ 1 → ⊥) → P (afterRound h (roundEstimate view (h .est)) (decided view (h .decision))))
+    → P (afterView h view)
+unfolding afterView
+by-view P h view =
+    view-go P h (afterFirst h view) (stood h 2) (afterPhase h (phaseEstimate h view))
+    (afterRound h (roundEstimate view (h .est)) (decided view (h .decision)))
+    (member view 0) (member view 1) (eqb (h .stage) 0) (member view 0 && member view 1) (eqb (h .phase) 1) refl refl refl
+
+cond-both : {A : Type 0} (P : A → Type 0) (b : Bool) (x y : A) → P x → P y → P (cond b x y)
+cond-both P true x y p q = p
+cond-both P false x y p q = q
+
+-- the two cases of a round's end
+by-round : (P : Host → Type 0) (h : Host) (est decision : ℕ) → P (stood (moved h 16 2 1 (h .own) est decision) 1)
+    → P (moved h (h .round + 1) 1 0 est est decision) → P (afterRound h est decision)
+unfolding afterRound
+by-round P h est decision = cond-both P (eqb (h .round) 16) _ _
+
+-- ---- Decisions
+
+decides : (view decision : ℕ) → decision ≡ 2 → decided view decision ≡ only view
+unfolding decided
+decides view decision e = rw (eq-eqb decision 2 e) refl
+
+keeps : (view decision : ℕ) → (decision ≡ 2 → ⊥) → decided view decision ≡ decision
+unfolding decided
+keeps view decision n = rw (ne-eqb decision 2 n) refl
+
+-- "a decider's estimate is its decision"
+pub decider-estimate : (h : Host) (view : ℕ) → h .decision ≡ 2 → (afterView h view .decision ≡ 2 → ⊥)
+    → afterView h view .est ≡ afterView h view .decision
+decider-estimate h view e =
+    by-view (λ g. (g .decision ≡ 2 → ⊥) → g .est ≡ g .decision) h view
+    (λ s n. absurd (n e)) (λ s l r n. absurd (n e)) (λ s p n. absurd (n e))
+    (λ s p. by-round (λ g. (g .decision ≡ 2 → ⊥) → g .est ≡ g .decision) h _ _ same same)
+  where
+    same : (decided view (h .decision) ≡ 2 → ⊥) → roundEstimate view (h .est) ≡ decided view (h .decision)
+    same = rw (decides view (h .decision) e) (holds-only view (h .est))
+
+-- a decision stays
+pub decision-stays : (h : Host) (view : ℕ) → (h .decision ≡ 2 → ⊥) → afterView h view .decision ≡ h .decision
+decision-stays h view n =
+    by-view (λ g. g .decision ≡ h .decision) h view (λ s. refl) (λ s l r. refl) (λ s p. refl)
+    (λ s p. by-round (λ g. g .decision ≡ h .decision) h _ _ (keeps view (h .decision) n) (keeps view (h .decision) n))
+
+-- only the view of stage 1, phase 2 decides, and what it decides is its one value
+pub decides-only : (h : Host) (view : ℕ) → h .decision ≡ 2 → (afterView h view .decision ≡ 2 → ⊥)
+    → (h .stage ≡ 0 → ⊥) × (h .phase ≡ 1 → ⊥) × (afterView h view .decision ≡ only view)
+decides-only h view e =
+    by-view (λ g. (g .decision ≡ 2 → ⊥) → (h .stage ≡ 0 → ⊥) × (h .phase ≡ 1 → ⊥) × (g .decision ≡ only view)) h view
+    (λ s n. absurd (n e)) (λ s l r n. absurd (n e)) (λ s p n. absurd (n e))
+    (λ s p. by-round (λ g. (g .decision ≡ 2 → ⊥) → (h .stage ≡ 0 → ⊥) × (h .phase ≡ 1 → ⊥) × (g .decision ≡ only view)) h _ _
+    (λ n. (s, p, decides view (h .decision) e)) (λ n. (s, p, decides view (h .decision) e)))
+
+-- ---- Estimates
+
+later : (h : Host) → h .stage ≡ 1 → eqb (h .stage) 0 ≡ false
+later h s = ne-eqb (h .stage) 0 (λ z. omega arith)
+
+phase-one : (h : Host) (view : ℕ) → h .stage ≡ 1 → h .phase ≡ 1 → member view 0 && member view 1 ≡ false
+    → afterView h view ≡ afterPhase h (phaseEstimate h view)
+unfolding afterView
+phase-one h view s p e = rw (later h s, e, eq-eqb (h .phase) 1 p) refl
+
+phase-two : (h : Host) (view : ℕ) → h .stage ≡ 1 → h .phase ≡ 2 → member view 0 && member view 1 ≡ false
+    → afterView h view ≡ afterRound h (roundEstimate view (h .est)) (decided view (h .decision))
+unfolding afterView
+phase-two h view s p e = rw (later h s, e, ne-eqb (h .phase) 1 (λ z. omega arith)) refl
+
+-- "a view of one value 0 or 1 becomes the estimate": there is no coin then
+pub single-estimate : (h : Host) (view : ℕ) → h .stage ≡ 1 → h .phase ≡ 1 → (only view ≡ 2 → ⊥) → afterView h view .est ≡ only view
+unfolding phaseEstimate
+single-estimate h view s p n = rw (phase-one h view s p (not-two view n), ne-eqb (only view) 2 n) refl
+
+-- "otherwise the estimate is the host's coin bit of that round", and not the old estimate
+pub coin-estimate : (h : Host) (view : ℕ) → h .stage ≡ 1 → h .phase ≡ 1 → member view 0 && member view 1 ≡ false → only view ≡ 2
+    → afterView h view .est ≡ coin h
+unfolding phaseEstimate
+coin-estimate h view s p e o = rw (phase-one h view s p e, eq-eqb (only view) 2 o) refl
+
+round-end : (h : Host) (est decision : ℕ) → (afterRound h est decision .est ≡ est) × (afterRound h est decision .decision ≡ decision)
+round-end h est decision = by-round (λ g. (g .est ≡ est) × (g .decision ≡ decision)) h est decision (refl, refl) (refl, refl)
+
+one-alone : (a b : Bool) → a && b ≡ false → b ≡ true → a ≡ false
+one-alone true b e t = cc
+one-alone false b e t = refl
+
+undecided : (b : Bool) (d o : ℕ) → eqb d 2 ≡ b → o ≡ 2 → cond b o d ≡ d
+undecided true d o e p = p ∙ sym (eqb-true d 2 e)
+undecided false d o e p = refl
+
+-- "v and neither makes the estimate v; only neither changes nothing"
+pub seen-estimate : (h : Host) (view : ℕ) → h .stage ≡ 1 → h .phase ≡ 2 → member view 0 && member view 1 ≡ false
+    → (member view 0 ≡ true → afterView h view .est ≡ 0) × (member view 1 ≡ true → afterView h view .est ≡ 1)
+    × (member view 0 ≡ false → member view 1 ≡ false → afterView h view .est ≡ h .est)
+    × (only view ≡ 2 → afterView h view .decision ≡ h .decision)
+unfolding roundEstimate decided
+seen-estimate h view s p e =
+    let (est, decision) = round-end h (roundEstimate view (h .est)) (decided view (h .decision)) in
+    rw (phase-two h view s p e) (
+      λ l. est ∙ rw l refl,
+      λ r. est ∙ rw (one-alone (member view 0) (member view 1) e r, r) refl,
+      λ l r. est ∙ rw (l, r) refl,
+      λ o. decision ∙ undecided (eqb (h .decision) 2) (h .decision) (only view) refl o,
+    )
+
+-- "one value v gives v as the own value of stage 1; two values give "neither""
+pub first-own : (h : Host) (view : ℕ) → h .stage ≡ 0 → afterView h view ≡ moved h (h .round) (h .phase) 1 (only view) (h .est) (h .decision)
+unfolding afterView
+first-own h view s = rw (eq-eqb (h .stage) 0 s) refl
+
+-- ---- Broken
+
+-- "A stage 1 view that holds both 0 and 1: the host is broken", all else as it was
+pub breaks : (h : Host) (view : ℕ) → h .stage ≡ 1 → member view 0 ≡ true → member view 1 ≡ true → afterView h view ≡ stood h 2
+unfolding afterView
+breaks h view s l r = rw (later h s, l, r) refl
+
+-- nothing else breaks a host
+pub breaks-only : (h : Host) (view : ℕ) → (h .standing ≡ 2 → ⊥) → afterView h view .standing ≡ 2
+    → (member view 0 ≡ true) × (member view 1 ≡ true) × (h .stage ≡ 0 → ⊥)
+breaks-only h view n =
+    by-view (λ g. g .standing ≡ 2 → (member view 0 ≡ true) × (member view 1 ≡ true) × (h .stage ≡ 0 → ⊥)) h view
+    (λ s e. absurd (n e)) (λ s l r e. (l, r, s)) (λ s p e. absurd (n e))
+    (λ s p. by-round (λ g. g .standing ≡ 2 → (member view 0 ≡ true) × (member view 1 ≡ true) × (h .stage ≡ 0 → ⊥)) h _ _
+    (λ e. absurd (omega arith)) (λ e. absurd (n e)))
+
+-- ---- What a view leaves alone
+
+-- the sent count
+pub sent-stays : (h : Host) (view : ℕ) → afterView h view .sent ≡ h .sent
+sent-stays h view =
+    by-view (λ g. g .sent ≡ h .sent) h view (λ s. refl) (λ s l r. refl) (λ s p. refl)
+    (λ s p. by-round (λ g. g .sent ≡ h .sent) h _ _ refl refl)
+
+-- the coin bits
+pub coins-stay : (h : Host) (view : ℕ) → afterView h view .coins ≡ h .coins
+coins-stay h view =
+    by-view (λ g. g .coins ≡ h .coins) h view (λ s. refl) (λ s l r. refl) (λ s p. refl)
+    (λ s p. by-round (λ g. g .coins ≡ h .coins) h _ _ refl refl)

@@ -1,0 +1,14 @@
+-- `phase_estimate` meets its promise. Assumes nothing.
+use Rattle.host.specs.View.{phaseEstimate}
+use borrow.Author.Needs.{needs}
+use Rattle.host.proofs.view.phase_estimate.Statement.{statement}
+use Rattle.host.proofs.view.phase_estimate.Tie as tie
+
+returns : tie.Need-returns
+unfolding phaseEstimate
+returns c = simp (c .pick .ensures, c .before .coin-of .ensures, c .before .before .only-of .ensures)
+
+pub phase-estimate-spec : {M : Type 1} → statement M
+phase-estimate-spec =
+    tie.close
+    (tie.spec (λ c κs. search needs) (λ c κs. search needs) (λ c κs. search needs) returns)

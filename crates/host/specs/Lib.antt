@@ -1,0 +1,9 @@
+pub mod First
+pub mod Words
+pub mod Record
+pub mod Recording
+pub mod View
+pub mod Moves
+pub mod Applying
+pub mod Calls
+pub mod Gates

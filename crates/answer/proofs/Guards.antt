@@ -15,11 +15,15 @@ abbrev pub Clear : List Guard → Type 0
 Clear [] = Unit
 Clear ((k when b) ∷ gs) = (b ≡ false) × Clear gs
 
+-- what passes guards passes each of them
+pub past-clear : {A : Type 0} (gs : List Guard) (r : Answer A) {a : A} → past gs r ≡ accepted a → Clear gs × (r ≡ accepted a)
+past-clear [] r e = (tt, e)
+past-clear ((k when true) ∷ gs) r e = absurd (not-both e refl)
+past-clear ((k when false) ∷ gs) r e = let (c, s) = past-clear gs r e in ((refl, c), s)
+
 -- a call is accepted exactly where its guards are clear, and gives what stands behind them
 pub clear : {A : Type 0} (gs : List Guard) (a : A) {x : A} → guarded gs a ≡ accepted x → Clear gs × (x ≡ a)
-clear [] a e = (tt, cc)
-clear ((k when true) ∷ gs) a e = absurd (not-both e refl)
-clear ((k when false) ∷ gs) a e = let (c, s) = clear gs a e in ((refl, c), s)
+clear gs a e = let (c, s) = past-clear gs (accepted a) e in (c, cc)
 
 pub passes : {A : Type 0} (gs : List Guard) (a : A) → Clear gs → guarded gs a ≡ accepted a
 passes [] a c = refl
@@ -53,3 +57,17 @@ goes-on gs hs a x e = in-parts gs hs x ∙ lets gs a (past hs x) e
 pub leaves : {A M : Type 0} (before after : M) (a : Answer (A × M)) {k : ℕ} → lent before a ≡ (refused k, after) → after ≡ before
 leaves before after (refused j) e = sym (ap (λ x. x .1) e)
 leaves before after (accepted (a, m)) e = absurd (not-both refl (ap (λ x. x .0) e))
+
+-- what an accepted call leaves is what it answers with
+pub lent-accepted : {A M : Type 0} (before after : M) (r : Answer (A × M)) {a : A} → lent before r ≡ (accepted a, after) → r ≡ accepted (a, after)
+lent-accepted before after (refused k) e = absurd (not-both (ap (λ x. x .0) e) refl)
+lent-accepted before after (accepted (b, m)) e =
+    let p = ap (λ x. x .0) e in
+    let q = ap (λ x. x .1) e in
+    cc
+
+-- a call that leaves what it was lent, accepted or not
+pub past-leaves : {A M : Type 0} (words : M) (gs : List Guard) (x : A) → lent words (past gs (accepted (x, words))) .1 ≡ words
+past-leaves words [] x = refl
+past-leaves words ((k when true) ∷ gs) x = refl
+past-leaves words ((k when false) ∷ gs) x = past-leaves words gs x

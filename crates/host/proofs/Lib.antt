@@ -1,10 +1,5 @@
-pub mod Laws
 pub mod Firsts
-pub mod Searching
 pub mod Ranges
-pub mod Passing
-pub mod Choice
-pub mod Viewers
+pub mod Puts
 pub mod Views
-pub mod Delivery
-pub mod Turns
+pub mod Unique

@@ -3,12 +3,12 @@ use Prim.Native.Nat.{ℕ, _+_}
 use mathlib.Core.Path.{_≡_, refl, sym, _∙_}
 use mathlib.Core.Bool.{Bool, true, false, cond, _&&_}
 use native.Mathlib.Omega.{arith}
-use lib.Dec.{eqb}
+use lib.Dec.{leb, eqb}
 use borrow.Author.Tests.{eqb-true, eqb-false, eq-eqb, ne-eqb}
 use Rattle.answer.proofs.Tests.{both}
 use Rattle.quorum.specs.Sets.{member}
 use Rattle.host.specs.Record.{coin, moved, stood}
-use Rattle.host.specs.View.{only, afterFirst, phaseEstimate, afterPhase, decided, roundEstimate, afterRound, afterView}
+use Rattle.host.specs.View.{onlyOf, afterFirst, phaseEstimate, afterPhase, decided, roundEstimate, afterRound, afterView}
 use Rattle.host.specs.declared.Host.{Host}
 
 -- ---- Views of one value
@@ -19,28 +19,28 @@ only-go P view true b p q one two else = rw (eqb-true view 1 p) one
 only-go P view false true p q one two else = rw (eqb-true view 2 q) two
 only-go P view false false p q one two else = else (eqb-false view 1 p) (eqb-false view 2 q)
 
--- the three cases of `only`: {0}, {1} and all else
-by-only : (P : ℕ → ℕ → Type 0) (view : ℕ) → P 1 0 → P 2 1 → ((view ≡ 1 → ⊥) → (view ≡ 2 → ⊥) → P view 2) → P view (only view)
-unfolding only
+-- the three cases of `onlyOf`: {0}, {1} and all else
+by-only : (P : ℕ → ℕ → Type 0) (view : ℕ) → P 1 0 → P 2 1 → ((view ≡ 1 → ⊥) → (view ≡ 2 → ⊥) → P view 2) → P view (onlyOf view)
+unfolding onlyOf
 by-only P view = only-go P view (eqb view 1) (eqb view 2) refl refl
 
 -- a view whose one value is 0, and one whose one value is 1
-pub only-single : (view : ℕ) → (only view ≡ 0 → view ≡ 1) × (only view ≡ 1 → view ≡ 2)
+pub only-single : (view : ℕ) → (onlyOf view ≡ 0 → view ≡ 1) × (onlyOf view ≡ 1 → view ≡ 2)
 only-single view =
     by-only (λ v o. (o ≡ 0 → v ≡ 1) × (o ≡ 1 → v ≡ 2)) view (omega arith) (omega arith) (λ p q. omega arith)
 
 -- a view of one value 0 or 1 does not hold both
-not-two : (view : ℕ) → (only view ≡ 2 → ⊥) → member view 0 && member view 1 ≡ false
+not-two : (view : ℕ) → (onlyOf view ≡ 2 → ⊥) → member view 0 && member view 1 ≡ false
 unfolding member
 not-two view = by-only (λ v o. (o ≡ 2 → ⊥) → member v 0 && member v 1 ≡ false) view (λ n. refl) (λ n. refl) (λ p q n. absurd (n refl))
 
 -- it holds its value
-holds-only : (view est : ℕ) → (only view ≡ 2 → ⊥) → roundEstimate view est ≡ only view
+holds-only : (view est : ℕ) → (onlyOf view ≡ 2 → ⊥) → roundEstimate view est ≡ onlyOf view
 unfolding member roundEstimate
 holds-only view est = by-only (λ v o. (o ≡ 2 → ⊥) → roundEstimate v est ≡ o) view (λ n. refl) (λ n. refl) (λ p q n. absurd (n refl))
 
 -- a view with neither 0 nor 1 is not of one such value
-pub only-none : (view : ℕ) → member view 0 ≡ false → member view 1 ≡ false → only view ≡ 2
+pub only-none : (view : ℕ) → member view 0 ≡ false → member view 1 ≡ false → onlyOf view ≡ 2
 unfolding member
 only-none view = by-only (λ v o. member v 0 ≡ false → member v 1 ≡ false → o ≡ 2) view (λ a b. clash a) (λ a b. clash b) (λ p q a b. refl)
   where
@@ -78,14 +78,14 @@ cond-both P true x y p q = p
 cond-both P false x y p q = q
 
 -- the two cases of a round's end
-by-round : (P : Host → Type 0) (h : Host) (est decision : ℕ) → P (stood (moved h 16 2 1 (h .own) est decision) 1)
+by-round : (P : Host → Type 0) (h : Host) (est decision : ℕ) → P (stood (moved h (h .round) (h .phase) (h .stage) (h .own) est decision) 1)
     → P (moved h (h .round + 1) 1 0 est est decision) → P (afterRound h est decision)
 unfolding afterRound
-by-round P h est decision = cond-both P (eqb (h .round) 16) _ _
+by-round P h est decision = cond-both P (leb 16 (h .round)) _ _
 
 -- ---- Decisions
 
-decides : (view decision : ℕ) → decision ≡ 2 → decided view decision ≡ only view
+decides : (view decision : ℕ) → decision ≡ 2 → decided view decision ≡ onlyOf view
 unfolding decided
 decides view decision e = rw (eq-eqb decision 2 e) refl
 
@@ -112,11 +112,11 @@ decision-stays h view n =
 
 -- only the view of stage 1, phase 2 decides, and what it decides is its one value
 pub decides-only : (h : Host) (view : ℕ) → h .decision ≡ 2 → (afterView h view .decision ≡ 2 → ⊥)
-    → (h .stage ≡ 0 → ⊥) × (h .phase ≡ 1 → ⊥) × (afterView h view .decision ≡ only view)
+    → (h .stage ≡ 0 → ⊥) × (h .phase ≡ 1 → ⊥) × (afterView h view .decision ≡ onlyOf view)
 decides-only h view e =
-    by-view (λ g. (g .decision ≡ 2 → ⊥) → (h .stage ≡ 0 → ⊥) × (h .phase ≡ 1 → ⊥) × (g .decision ≡ only view)) h view
+    by-view (λ g. (g .decision ≡ 2 → ⊥) → (h .stage ≡ 0 → ⊥) × (h .phase ≡ 1 → ⊥) × (g .decision ≡ onlyOf view)) h view
     (λ s n. absurd (n e)) (λ s l r n. absurd (n e)) (λ s p n. absurd (n e))
-    (λ s p. by-round (λ g. (g .decision ≡ 2 → ⊥) → (h .stage ≡ 0 → ⊥) × (h .phase ≡ 1 → ⊥) × (g .decision ≡ only view)) h _ _
+    (λ s p. by-round (λ g. (g .decision ≡ 2 → ⊥) → (h .stage ≡ 0 → ⊥) × (h .phase ≡ 1 → ⊥) × (g .decision ≡ onlyOf view)) h _ _
     (λ n. (s, p, decides view (h .decision) e)) (λ n. (s, p, decides view (h .decision) e)))
 
 -- ---- Estimates
@@ -135,15 +135,15 @@ unfolding afterView
 phase-two h view s p e = rw (later h s, e, ne-eqb (h .phase) 1 (λ z. omega arith)) refl
 
 -- "a view of one value 0 or 1 becomes the estimate": there is no coin then
-pub single-estimate : (h : Host) (view : ℕ) → h .stage ≡ 1 → h .phase ≡ 1 → (only view ≡ 2 → ⊥) → afterView h view .est ≡ only view
+pub single-estimate : (h : Host) (view : ℕ) → h .stage ≡ 1 → h .phase ≡ 1 → (onlyOf view ≡ 2 → ⊥) → afterView h view .est ≡ onlyOf view
 unfolding phaseEstimate
-single-estimate h view s p n = rw (phase-one h view s p (not-two view n), ne-eqb (only view) 2 n) refl
+single-estimate h view s p n = rw (phase-one h view s p (not-two view n), ne-eqb (onlyOf view) 2 n) refl
 
 -- "otherwise the estimate is the host's coin bit of that round", and not the old estimate
-pub coin-estimate : (h : Host) (view : ℕ) → h .stage ≡ 1 → h .phase ≡ 1 → member view 0 && member view 1 ≡ false → only view ≡ 2
+pub coin-estimate : (h : Host) (view : ℕ) → h .stage ≡ 1 → h .phase ≡ 1 → member view 0 && member view 1 ≡ false → onlyOf view ≡ 2
     → afterView h view .est ≡ coin h
 unfolding phaseEstimate
-coin-estimate h view s p e o = rw (phase-one h view s p e, eq-eqb (only view) 2 o) refl
+coin-estimate h view s p e o = rw (phase-one h view s p e, eq-eqb (onlyOf view) 2 o) refl
 
 round-end : (h : Host) (est decision : ℕ) → (afterRound h est decision .est ≡ est) × (afterRound h est decision .decision ≡ decision)
 round-end h est decision = by-round (λ g. (g .est ≡ est) × (g .decision ≡ decision)) h est decision (refl, refl) (refl, refl)
@@ -160,7 +160,7 @@ undecided false d o e p = refl
 pub seen-estimate : (h : Host) (view : ℕ) → h .stage ≡ 1 → h .phase ≡ 2 → member view 0 && member view 1 ≡ false
     → (member view 0 ≡ true → afterView h view .est ≡ 0) × (member view 1 ≡ true → afterView h view .est ≡ 1)
     × (member view 0 ≡ false → member view 1 ≡ false → afterView h view .est ≡ h .est)
-    × (only view ≡ 2 → afterView h view .decision ≡ h .decision)
+    × (onlyOf view ≡ 2 → afterView h view .decision ≡ h .decision)
 unfolding roundEstimate decided
 seen-estimate h view s p e =
     let (est, decision) = round-end h (roundEstimate view (h .est)) (decided view (h .decision)) in
@@ -168,11 +168,11 @@ seen-estimate h view s p e =
       λ l. est ∙ rw l refl,
       λ r. est ∙ rw (one-alone (member view 0) (member view 1) e r, r) refl,
       λ l r. est ∙ rw (l, r) refl,
-      λ o. decision ∙ undecided (eqb (h .decision) 2) (h .decision) (only view) refl o,
+      λ o. decision ∙ undecided (eqb (h .decision) 2) (h .decision) (onlyOf view) refl o,
     )
 
 -- "one value v gives v as the own value of stage 1; two values give "neither""
-pub first-own : (h : Host) (view : ℕ) → h .stage ≡ 0 → afterView h view ≡ moved h (h .round) (h .phase) 1 (only view) (h .est) (h .decision)
+pub first-own : (h : Host) (view : ℕ) → h .stage ≡ 0 → afterView h view ≡ moved h (h .round) (h .phase) 1 (onlyOf view) (h .est) (h .decision)
 unfolding afterView
 first-own h view s = rw (eq-eqb (h .stage) 0 s) refl
 

@@ -1,7 +1,7 @@
 -- The first number below n that passes a test.
 use Prim.Native.Nat.{ℕ, zero, suc}
 use mathlib.Core.Bool.{Bool, cond}
-use Rattle.host.specs.declared.search.Place.{Place}
+use Rattle.host.specs.declared.Place.{Place}
 
 -- what was found, or else what comes next
 abbrev pub orElse : Place → Place → Place

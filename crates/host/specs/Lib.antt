@@ -1,9 +1,5 @@
 pub mod First
 pub mod Words
 pub mod Record
-pub mod Recording
 pub mod View
-pub mod Moves
-pub mod Applying
 pub mod Calls
-pub mod Gates

@@ -2,22 +2,22 @@
 -- {1} is 2 and {neither} is 4.
 use Prim.Native.Nat.{ℕ, _+_}
 use mathlib.Core.Bool.{Bool, cond, _&&_}
-use lib.Dec.{eqb}
+use lib.Dec.{leb, eqb}
 use Rattle.quorum.specs.Sets.{member}
 use Rattle.host.specs.Record.{coin, moved, stood}
 use Rattle.host.specs.declared.Host.{Host}
 
 -- the value of a view of one value 0 or 1, else neither
-unfoldable pub only : ℕ → ℕ
-only view = cond (eqb view 1) 0 (cond (eqb view 2) 1 2)
+unfoldable pub onlyOf : ℕ → ℕ
+onlyOf view = cond (eqb view 1) 0 (cond (eqb view 2) 1 2)
 
 -- "Stage 0: one value v gives v as the own value of stage 1; two values give "neither"."
 abbrev pub afterFirst : Host → ℕ → Host
-afterFirst h view = moved h (h .round) (h .phase) 1 (only view) (h .est) (h .decision)
+afterFirst h view = moved h (h .round) (h .phase) 1 (onlyOf view) (h .est) (h .decision)
 
 -- "Stage 1, phase 1: a view of one value 0 or 1 becomes the estimate; otherwise the estimate is the host's coin bit of that round."
 unfoldable pub phaseEstimate : Host → ℕ → ℕ
-phaseEstimate h view = cond (eqb (only view) 2) (coin h) (only view)
+phaseEstimate h view = cond (eqb (onlyOf view) 2) (coin h) (onlyOf view)
 
 -- ".. Phase 2 follows." "The own value of stage 0 is the estimate"
 abbrev pub afterPhase : Host → ℕ → Host
@@ -25,7 +25,7 @@ afterPhase h est = moved h (h .round) 2 0 est est (h .decision)
 
 -- "Stage 1, phase 2: only v (0 or 1) decides v if nothing is decided yet .."
 unfoldable pub decided : ℕ → ℕ → ℕ
-decided view decision = cond (eqb decision 2) (only view) decision
+decided view decision = cond (eqb decision 2) (onlyOf view) decision
 
 -- ".. and the estimate becomes v; v and neither makes the estimate v; only neither changes nothing."
 unfoldable pub roundEstimate : ℕ → ℕ → ℕ
@@ -34,7 +34,8 @@ roundEstimate view est = cond (member view 0) 0 (cond (member view 1) 1 est)
 -- ".. Then the next round." "After round 16 a host is finished: it stays at round 16, phase 2, stage 1 with the own value it had there"
 unfoldable pub afterRound : Host → ℕ → ℕ → Host
 afterRound h est decision =
-    cond (eqb (h .round) 16) (stood (moved h 16 2 1 (h .own) est decision) 1) (moved h (h .round + 1) 1 0 est est decision)
+    cond (leb 16 (h .round)) (stood (moved h (h .round) (h .phase) (h .stage) (h .own) est decision) 1)
+    (moved h (h .round + 1) 1 0 est est decision)
 
 -- "A stage 1 view that holds both 0 and 1: the host is broken, its round, phase, stage, own value, estimate and decision as they were."
 unfoldable pub afterView : Host → ℕ → Host

@@ -1,24 +1,14 @@
-// One host's voting rules: what a delivery records, and which one move a turn makes. A host is its
-// record, which goes by value, and its 448 words, which are lent; docs/API.md says what each bit of
-// them means, so that no content is refused.
+// What a host is: its record, which goes by value, and its 448 words, which are lent; docs/API.md
+// says what each bit of them means, so that no content is refused. What it does with them stands in
+// the crates `delivery` and `turn`.
 //
-// Each call takes every value of its parameters' types and answers document 01's refusal where it
-// has one. A refused call changes no word. The definitions stand in specs/Calls.antt.
-mod applying;
-mod choosing;
-mod gates;
-mod recording;
-mod search;
+// Each call takes every value of its parameters' types: none asks anything of its caller.
+mod record;
 mod view;
-mod words;
 
 ghost use mathlib.Core.Path.{_≡_};
-ghost use Rattle.host.specs.Calls.{deliveredSays, Delivers, DeliversWord, Turns, Asks};
-ghost use Rattle.host.specs.Gates.{outcome};
-use crate::gates::Gate;
-use crate::recording::Recorded;
-use frame::Frame;
-use frame::Unpacked;
+ghost use Prim.Native.Nat.{_-_};
+ghost use Rattle.host.specs.Calls.{Readies, Numbers, Views};
 use quorum::Checked;
 use quorum::World;
 
@@ -38,99 +28,65 @@ pub struct Host {
     pub coins: u16,
 }
 
-pub enum Delivered {
-    Accepted,
-    Refused(u8),
+// The first number that passes a test.
+pub enum Place {
+    At(usize),
+    Nowhere,
 }
 
-// A turn that made no move, one that broadcast nothing and one that broadcast a frame to all hosts,
-// each with the host's record after it.
-pub enum Turned {
-    Idle,
-    Quiet(Host),
-    Broadcast(Host, Frame),
-    Refused(u8),
-}
-
-pub enum Said {
-    Known(bool),
-    Refused(u8),
-}
-
-// Records a frame in a host's words: refusals 13, 2, 3, 6, 8, 9, 5, 10, 11, 12. `said` is whether
-// the sender is known to have broadcast it, or to lie (`may_send`); who trusts the network passes
-// true. A frame that is recorded already is accepted and changes nothing.
-pub fn deliver(sets: &mut [u32], host: Host, world: World, frame: Frame, said: bool) -> Delivered
-    ensures { λ r. ⌜ Delivers (now (sets .entry)) host world frame said r (now (sets .exit)) ⌝ }
+// The thresholds for a call on so many lent words, this record and this world: refusals 13, 2, 3.
+pub fn ready(words: usize, host: Host, world: World) -> Checked
+    ensures { λ r. ⌜ Readies words host world r ⌝ }
 {
-    let receiver = gates::receiver(sets, host, world);
-    let sender = gates::sender(world, frame);
-    if let Gate::Refused(number) = receiver {
-        return Delivered::Refused(number);
+    let bad = record::out_of_range(host);
+    if (words < 448) | bad {
+        return Checked::Refused(13);
     }
-    if let Gate::Refused(number) = sender {
-        return Delivered::Refused(number);
-    }
-    if host.standing == 2 {
-        return Delivered::Refused(10);
-    }
-    if !said {
-        return Delivered::Refused(11);
-    }
-    let recorded = recording::record(sets, frame);
-    conclude(recorded)
+    quorum::check(world)
 }
 
-// What a delivery answers when recording said this: 12 where another AUX is held.
-fn conclude(recorded: Recorded) -> Delivered
-    ensures { λ r. ⌜ deliveredSays r ≡ outcome recorded ⌝ }
+// The number of an instance: 0 to 63 for a round, phase and stage in their ranges.
+pub fn instance(round: u8, phase: u8, stage: u8) -> usize
+    ensures { λ r. ⌜ Numbers round phase stage r ⌝ }
 {
-    match recorded {
-        Recorded::New => Delivered::Accepted,
-        Recorded::Repeat => Delivered::Accepted,
-        Recorded::Held(_) => Delivered::Refused(12),
-    }
+    4 * less_one(round) + 2 * less_one(phase) + stage as usize
 }
 
-// The same for a packed frame, with 7 before 8.
-pub fn deliver_word(sets: &mut [u32], host: Host, world: World, word: u16, said: bool) -> Delivered
-    ensures { λ r. ⌜ DeliversWord (now (sets .entry)) host world word said r (now (sets .exit)) ⌝ }
+fn less_one(x: u8) -> usize
+    ensures { λ r. ⌜ r ≡ x - 1 ⌝ }
 {
-    let receiver = gates::receiver(sets, host, world);
-    if let Gate::Refused(number) = receiver {
-        return Delivered::Refused(number);
+    if x == 0 {
+        return 0;
     }
-    let unpacked = frame::unpack(word);
-    let Unpacked::Frame(frame) = unpacked else {
-        return Delivered::Refused(gates::unread(unpacked));
-    };
-    deliver(sets, host, world, frame, said)
+    x as usize - 1
 }
 
-// Makes the one move that a host has to make, as host number `me`: refusals 13, 2, 3, 5, 6, 10, and
-// 13 where the move would broadcast with the sent count at 224.
-pub fn turn(sets: &mut [u32], host: Host, world: World, me: u32) -> Turned
-    ensures { λ r. ⌜ Turns (now (sets .entry)) host world me r (now (sets .exit)) ⌝ }
+// Where a view takes a host. A view is a set of values: bit v is one where it holds v.
+pub fn after_view(host: Host, view: u8) -> Host
+    ensures { λ r. ⌜ Views host view r ⌝ }
 {
-    let ready = gates::ready(sets, host, world);
-    match ready {
-        Checked::Refused(number) => Turned::Refused(number),
-        Checked::Accepted(at) => applying::take(sets, host, at, world.n, me),
+    if host.stage == 0 {
+        let own = view::only(view);
+        return record::move_to(
+            host,
+            host.round,
+            host.phase,
+            1,
+            own,
+            host.est,
+            host.decision,
+        );
     }
-}
-
-// Whether a frame may come from a host with this record and these words: from a liar every frame,
-// from others what they have broadcast. Refusals 13, 2, 3, 8, 9, 5.
-pub fn may_send(sets: &[u32], host: Host, world: World, frame: Frame) -> Said
-    ensures { λ r. ⌜ Asks (now (sets .entry)) host world frame r ⌝ }
-{
-    let ready = gates::ready(sets, host, world);
-    let sender = gates::sender(world, frame);
-    if let Checked::Refused(number) = ready {
-        return Said::Refused(number);
+    let zero = quorum::has(view as u32, 0);
+    let one = quorum::has(view as u32, 1);
+    if zero & one {
+        return record::stand(host, 2);
     }
-    if let Gate::Refused(number) = sender {
-        return Said::Refused(number);
+    if host.phase == 1 {
+        let est = view::phase_estimate(host, view);
+        return record::move_to(host, host.round, 2, 0, est, est, host.decision);
     }
-    Said::Known(recording::may_come(sets, host, frame))
+    let est = view::round_estimate(view, host.est);
+    let decision = view::decision(view, host.decision);
+    view::next_round(host, est, decision)
 }

@@ -1,12 +1,13 @@
 -- Who is in a set to which a host was added, in a union, in the empty set and in a set that is not empty, over any width. Assumes nothing.
-use Prim.Native.Nat.{ℕ, zero, suc, _+_, _*_, _/_, _%_, _^_, _≤_, _<_, max}
+use Prim.Native.Nat.{ℕ, zero, suc, _+_, _*_, _/_, _%_, _^_, _<_, max}
 use mathlib.Core.Path.{_≡_, refl, sym, ap, _∙_}
 use mathlib.Core.Bool.{Bool, true, false, _||_}
-use native.Mathlib.Nat.{zero-div, pow-suc}
+use native.Mathlib.Nat.{zero-div, one-mul, pow-suc}
 use native.Mathlib.Omega.{arith}
 use lib.Bits.{bitOr, or-step, or-shr}
-use lib.Dec.{eqb}
-use borrow.Author.Tests.{eqb-true, eqb-false}
+use lib.Dec.{lit<, eqb}
+use lib.Pow.{shl-exact}
+use borrow.Author.Tests.{eqb-false}
 use Rattle.quorum.specs.Sets.{member, add, union}
 use Rattle.quorum.proofs.Members.{member-suc}
 
@@ -92,3 +93,8 @@ below-pow (suc w) = rw pow-suc (omega (arith, below-pow w))
 
 pub some-member : (w : ℕ) → (w ≡ 0 → ⊥) → (j : ℕ) × (member w j ≡ true)
 some-member w h = some-below w w (below-pow w) h
+
+-- `w | 1 << j` in a machine's word of `width` bits
+pub or-shl : (width j : ℕ) → j < width → (w : ℕ) → bitOr w (1 * 2 ^ j % 2 ^ width) ≡ add w j
+unfolding add
+or-shl width j l w = ap (bitOr w) (shl-exact 1 j width (lit< tt) (omega arith) ∙ one-mul (2 ^ j))

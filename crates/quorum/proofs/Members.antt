@@ -1,13 +1,14 @@
 -- The size of a set word is the number of its members, over any width. Assumes nothing.
-use Prim.Native.Nat.{ℕ, zero, suc, _+_, _/_, _%_, _^_, _<_}
+use Prim.Native.Nat.{ℕ, zero, suc, _+_, _/_, _%_, _^_, _≤_, _<_}
 use mathlib.Core.Path.{_≡_, refl, ap, ap₂, _∙_}
-use native.Mathlib.Nat.{pow-suc}
+use mathlib.Core.Bool.{false}
+use native.Mathlib.Nat.{pow-suc, div-eq-of-lt, lt-of-lt-of-le}
 use native.Mathlib.Numerals.{one-add}
 use native.Mathlib.Omega.{arith}
 use lib.Arith.{lt-one}
 use lib.Count.{ones, ones-step}
 use lib.Dec.{eqb}
-use lib.Pow.{shr-shr}
+use lib.Pow.{shr-shr, pow-mono}
 use Rattle.quorum.specs.Count.{one, count}
 use Rattle.quorum.specs.Sets.{member, size}
 use Rattle.quorum.proofs.Counting.{count-same}
@@ -38,3 +39,8 @@ size-counts zero w h = ap ones (lt-one h) ∙ ones-zero
 size-counts (suc n) w h =
     let half : w / 2 < 2 ^ n = omega (arith, rw pow-suc at h) in
     ones-step w ∙ ap₂ _+_ (member-zero w) (size-counts n (w / 2) half ∙ count-same n (member (w / 2)) (λ j. member w (suc j)) (member-suc w))
+
+-- a word has no member past its last bit
+pub no-member : (n w j : ℕ) → w < 2 ^ n → n ≤ j → false ≡ member w j
+unfolding member
+no-member n w j l m = rw (div-eq-of-lt (lt-of-lt-of-le l (pow-mono m)))

@@ -1,7 +1,8 @@
 // The world of a vote: how many hosts there are, how many of them may lie, and the thresholds that
-// follow from these two numbers.
+// follow from these two numbers; and sets of hosts as words.
 ghost use Prim.Native.Nat.{_*_, _≤_, _<_};
 ghost use mathlib.Core.Path.{_≡_};
+ghost use Rattle.quorum.specs.Sets.{Has};
 ghost use Rattle.quorum.specs.World.{Makes, Checks, badHosts, badLiars, thresholdsOf};
 
 // n hosts, numbered from 0, of which up to t may lie. It goes by value to every call that asks for it.
@@ -67,4 +68,14 @@ fn thresholds_of(world: World) -> Thresholds
         admit: 2 * world.t + 1,
         view: world.n - world.t,
     }
+}
+
+// Whether host j is in a set, which has bit j for it.
+pub fn has(set: u32, j: usize) -> bool
+    ensures { λ r. ⌜ Has set j r ⌝ }
+{
+    if 32 <= j {
+        return false;
+    }
+    set >> j & 1 == 1
 }

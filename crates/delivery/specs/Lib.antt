@@ -1,0 +1,3 @@
+pub mod Recording
+pub mod Delivery
+pub mod Parts

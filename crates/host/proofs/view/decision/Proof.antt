@@ -1,0 +1,14 @@
+-- `decision` meets its promise. Assumes nothing.
+use Rattle.host.specs.View.{decided}
+use borrow.Author.Needs.{needs}
+use Rattle.host.proofs.view.decision.Statement.{statement}
+use Rattle.host.proofs.view.decision.Tie as tie
+
+returns : tie.Need-returns
+unfolding decided
+returns c = simp (c .pick .ensures, c .before .only .ensures)
+
+pub decision-spec : {M : Type 1} → statement M
+decision-spec =
+    tie.close
+    (tie.spec (λ c κs. search needs) (λ c κs. search needs) returns)

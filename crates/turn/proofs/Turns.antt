@@ -1,0 +1,107 @@
+-- What a turn changes: marks alone, of which none is lost, and the sent count where it broadcasts. Assumes nothing.
+use Prim.Native.Nat.{ℕ, _+_, _%_}
+use mathlib.Core.Path.{_≡_, refl, ap, _∙_}
+use mathlib.Core.Bool.{true}
+use mathlib.Core.List.{List}
+use native.Mathlib.Omega.{arith}
+use lib.ListN.{length, getD}
+use Rattle.answer.specs.Answer.{Answer, refused, accepted, guarded}
+use Rattle.answer.proofs.Guards.{Clear, clear, leaves, lent-accepted}
+use Rattle.frame.specs.declared.Frame.{Frame}
+use Rattle.quorum.specs.Sets.{member}
+use Rattle.quorum.specs.World.{thresholdsOf}
+use Rattle.quorum.specs.declared.World.{World}
+use Rattle.host.specs.Words.{marksAt, marks, mark}
+use Rattle.turn.specs.Applying.{Turn, idle, quiet, broadcast, applied}
+use Rattle.turn.specs.Moves.{chosen}
+use Rattle.turn.specs.Turning.{turnGuards, made, turning}
+use Rattle.host.specs.declared.Host.{Host}
+use Rattle.turn.specs.declared.choosing.Move.{Move}
+use Rattle.host.proofs.Views.{sent-stays}
+use Rattle.host.proofs.Puts.{put-length, put-elsewhere, put-grows}
+
+-- ---- Refused and accepted
+
+-- a refused turn leaves the words
+pub turn-refused : (words : List ℕ) (h : Host) (w : World) (me : ℕ) {k : ℕ} {after : List ℕ}
+    → turning words h w me ≡ (refused k, after) → after ≡ words
+unfolding turning
+turn-refused words h w me e = leaves words _ (guarded (turnGuards words h w me) (made words h (thresholdsOf w) me)) e
+
+-- an accepted turn makes the chosen move, and no guard refused it
+pub turn-made : (words : List ℕ) (h : Host) (w : World) (me : ℕ) {a : Turn} {after : List ℕ} → turning words h w me ≡ (accepted a, after)
+    → Clear (turnGuards words h w me) × (_≡_ {A = Turn × List ℕ} (a, after) (made words h (thresholdsOf w) me))
+unfolding turning
+turn-made words h w me {after = after} e =
+    let r = lent-accepted words after (guarded (turnGuards words h w me) (made words h (thresholdsOf w) me)) e in
+    clear (turnGuards words h w me) (made words h (thresholdsOf w) me) r
+
+-- ---- The words
+
+applied-by : (P : List ℕ → Type 0) (words : List ℕ) (h : Host) (me : ℕ) (m : Move) → P words
+    → ((ws : List ℕ) (i j : ℕ) → P ws → P (mark ws i j)) → P (applied words h me m .1)
+applied-by P words h me Move.Idle p f = p
+applied-by P words h me (Move.Echo i v) p f = f words i _ p
+applied-by P words h me (Move.Admit i v) p f = f words i _ p
+applied-by P words h me (Move.BeginUnsent i) p f = f words i _ p
+applied-by P words h me (Move.Begin i v) p f = f _ i _ (f words i _ p)
+applied-by P words h me (Move.Aux i v) p f = f words i _ p
+applied-by P words h me (Move.View view) p f = p
+
+-- what holds of the words and of whatever gets a mark holds after a turn
+by-turn : (P : List ℕ → Type 0) (words : List ℕ) (h : Host) (w : World) (me : ℕ) (a : Answer Turn) (after : List ℕ) → P words
+    → ((ws : List ℕ) (i j : ℕ) → P ws → P (mark ws i j)) → turning words h w me ≡ (a, after) → P after
+by-turn P words h w me (refused k) after p f e = rw (turn-refused words h w me e) p
+by-turn P words h w me (accepted a) after p f e =
+    let (_, t) = turn-made words h w me e in
+    rw (ap (λ x. x .1) t) (applied-by P words h me (chosen words h (thresholdsOf w)) p f)
+
+-- a turn changes only marks
+pub turn-marks : (words : List ℕ) (h : Host) (w : World) (me : ℕ) {a : Answer Turn} {after : List ℕ} → turning words h w me ≡ (a, after)
+    → (length after ≡ length words) × ((at : ℕ) → (at % 7 ≡ 6 → ⊥) → getD after at 0 ≡ getD words at 0)
+turn-marks words h w me e =
+    by-turn (λ ws. (length ws ≡ length words) × ((at : ℕ) → (at % 7 ≡ 6 → ⊥) → getD ws at 0 ≡ getD words at 0)) words h w me _ _
+    (refl, λ at n. refl)
+    (λ ws i j (l, same). (put-length ws (marksAt i) j ∙ l, λ at n. put-elsewhere ws (marksAt i) j at (λ q. n (omega arith)) ∙ same at n))
+    e
+
+-- and no mark is lost
+pub marks-grow : (words : List ℕ) (h : Host) (w : World) (me : ℕ) {a : Answer Turn} {after : List ℕ} → turning words h w me ≡ (a, after)
+    → (i j : ℕ) → member (marks words i) j ≡ true → member (marks after i) j ≡ true
+unfolding marks
+marks-grow words h w me e i j t =
+    by-turn (λ ws. member (getD ws (marksAt i) 0) j ≡ true) words h w me _ _ t (λ ws k b. put-grows ws (marksAt k) b (marksAt i) j) e
+
+-- ---- The sent count
+
+Sent : Host → Turn → Type 0
+Sent h idle = Unit
+Sent h (quiet g) = g .sent ≡ h .sent
+Sent h (broadcast g f) = g .sent ≡ h .sent + 1
+
+applied-sent : (words : List ℕ) (h : Host) (me : ℕ) (m : Move) → Sent h (applied words h me m .0)
+unfolding Sent
+applied-sent words h me Move.Idle = tt
+applied-sent words h me (Move.Echo i v) = refl
+applied-sent words h me (Move.Admit i v) = refl
+applied-sent words h me (Move.BeginUnsent i) = refl
+applied-sent words h me (Move.Begin i v) = refl
+applied-sent words h me (Move.Aux i v) = refl
+applied-sent words h me (Move.View view) = sent-stays h view
+
+sent-by : (words : List ℕ) (h : Host) (w : World) (me : ℕ) (a : Turn) (after : List ℕ) → turning words h w me ≡ (accepted a, after) → Sent h a
+sent-by words h w me a after e =
+    let (_, t) = turn-made words h w me e in
+    rw (ap (λ x. x .0) t) (applied-sent words h me (chosen words h (thresholdsOf w)))
+
+-- the sent count is that of the frames broadcast: one more with a broadcast
+pub turn-sent : (words : List ℕ) (h : Host) (w : World) (me : ℕ) {g : Host} {f : Frame} {after : List ℕ}
+    → turning words h w me ≡ (accepted (broadcast g f), after) → g .sent ≡ h .sent + 1
+unfolding Sent
+turn-sent words h w me e = sent-by words h w me _ _ e
+
+-- and the same without
+pub quiet-sent : (words : List ℕ) (h : Host) (w : World) (me : ℕ) {g : Host} {after : List ℕ}
+    → turning words h w me ≡ (accepted (quiet g), after) → g .sent ≡ h .sent
+unfolding Sent
+quiet-sent words h w me e = sent-by words h w me _ _ e

@@ -8,6 +8,7 @@ use lib.ListN.{length, getD}
 use borrow.Author.Tests.{ne-eqb, not-false}
 use Rattle.answer.specs.Answer.{Answer, refused, accepted, past, lent}
 use Rattle.answer.proofs.Guards.{not-both, past-clear, leaves, lent-accepted, past-leaves}
+use Rattle.frame.specs.Frame.{unpacking}
 use Rattle.frame.specs.declared.Frame.{Frame}
 use Rattle.quorum.specs.Sets.{member}
 use Rattle.quorum.specs.declared.World.{World}
@@ -19,7 +20,7 @@ use Rattle.host.proofs.Firsts.{first-nowhere}
 use Rattle.host.proofs.Puts.{put-length, put-same, put-others}
 use Rattle.host.proofs.Ranges.{ready-clear}
 use Rattle.delivery.specs.Recording.{frameInstance, frameSet, heldAux, heldFrom, recordOver, recording, Told}
-use Rattle.delivery.specs.Delivery.{deliverGuards, concluded, delivering}
+use Rattle.delivery.specs.Delivery.{receiverGuards, deliverGuards, concluded, delivering, afterUnpacking, deliveringWord}
 use Rattle.delivery.specs.Parts.{outcome}
 use Rattle.delivery.specs.declared.recording.Recorded.{Recorded}
 use Rattle.delivery.proofs.Telling.{told, told-in}
@@ -72,6 +73,17 @@ pub delivery-refused : (words : List ℕ) (h : Host) (w : World) (f : Frame) (sa
     → delivering words h w f said ≡ (refused k, after) → after ≡ words
 unfolding delivering
 delivery-refused words h w f said e = leaves words _ (past (deliverGuards words h w f said) (concluded (recording words f))) e
+
+unread-refused : (words : List ℕ) (h : Host) (w : World) (said : Bool) (u : Answer Frame) {k : ℕ} {after : List ℕ}
+    → afterUnpacking words h w said u ≡ (refused k, after) → after ≡ words
+unread-refused words h w said (refused j) e = leaves words _ (past (receiverGuards (length words) h w) (refused j)) e
+unread-refused words h w said (accepted f) e = delivery-refused words h w f said e
+
+-- so does the refused delivery of a packed frame
+pub word-refused : (words : List ℕ) (h : Host) (w : World) (word : ℕ) (said : Bool) {k : ℕ} {after : List ℕ}
+    → deliveringWord words h w word said ≡ (refused k, after) → after ≡ words
+unfolding deliveringWord
+word-refused words h w word said e = unread-refused words h w said (unpacking word) e
 
 -- an accepted delivery: there are all words, the frame is in range, its sender said it, and it was recorded
 passed : (words after : List ℕ) (h : Host) (w : World) (f : Frame) (said : Bool) → delivering words h w f said ≡ (accepted tt, after)

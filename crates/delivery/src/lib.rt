@@ -68,9 +68,9 @@ pub fn deliver_word(sets: &mut [u32], host: Host, world: World, word: u16, said:
     ensures { λ r. ⌜ DeliversWord (now (sets .entry)) host world word said r (now (sets .exit)) ⌝ }
 {
     let words = sets.len();
-    let receiver = gates::receiver(words, host, world);
-    if let Gate::Refused(number) = receiver {
-        return Delivered::Refused(number);
+    let hearer = gates::receiver(words, host, world);
+    if let Gate::Refused(early) = hearer {
+        return Delivered::Refused(early);
     }
     let unpacked = frame::unpack(word);
     let Unpacked::Frame(frame) = unpacked else {

@@ -16,8 +16,8 @@ abbrev pub afterFirst : Host → ℕ → Host
 afterFirst h view = moved h (h .round) (h .phase) 1 (onlyOf view) (h .est) (h .decision)
 
 -- "Stage 1, phase 1: a view of one value 0 or 1 becomes the estimate; otherwise the estimate is the host's coin bit of that round."
-unfoldable pub phaseEstimate : Host → ℕ → ℕ
-phaseEstimate h view = cond (eqb (onlyOf view) 2) (coin h) (onlyOf view)
+unfoldable pub phaseEstimate : ℕ → ℕ → ℕ
+phaseEstimate view coin = cond (eqb (onlyOf view) 2) coin (onlyOf view)
 
 -- ".. Phase 2 follows." "The own value of stage 0 is the estimate"
 abbrev pub afterPhase : Host → ℕ → Host
@@ -42,5 +42,5 @@ unfoldable pub afterView : Host → ℕ → Host
 afterView h view =
     cond (eqb (h .stage) 0) (afterFirst h view)
     (cond (member view 0 && member view 1) (stood h 2)
-    (cond (eqb (h .phase) 1) (afterPhase h (phaseEstimate h view))
+    (cond (eqb (h .phase) 1) (afterPhase h (phaseEstimate view (coin h)))
     (afterRound h (roundEstimate view (h .est)) (decided view (h .decision)))))

@@ -83,7 +83,8 @@ pub fn after_view(host: Host, view: u8) -> Host
         return record::stand(host, 2);
     }
     if host.phase == 1 {
-        let est = view::phase_estimate(host, view);
+        let coin = view::coin_of(host);
+        let est = view::phase_estimate(view, coin);
         return record::move_to(host, host.round, 2, 0, est, est, host.decision);
     }
     let est = view::round_estimate(view, host.est);

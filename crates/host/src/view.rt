@@ -31,7 +31,7 @@ fn rounds_left(round: u8) -> u32
 }
 
 // The host's coin bit of its round, round 1 first.
-fn coin_of(h: Host) -> u8
+pub fn coin_of(h: Host) -> u8
     ensures { λ r. ⌜ r ≡ coin h ⌝ }
 {
     let left = rounds_left(h.round);
@@ -39,11 +39,11 @@ fn coin_of(h: Host) -> u8
 }
 
 // The estimate after a view of phase 1.
-pub fn phase_estimate(h: Host, view: u8) -> u8
-    ensures { λ r. ⌜ r ≡ phaseEstimate h view ⌝ }
+pub fn phase_estimate(view: u8, coin: u8) -> u8
+    ensures { λ r. ⌜ r ≡ phaseEstimate view coin ⌝ }
 {
     let v = only(view);
-    pick(v == 2, coin_of(h), v)
+    pick(v == 2, coin, v)
 }
 
 // The estimate after a view of phase 2.

@@ -1,7 +1,7 @@
--- What a turn changes: marks alone, of which none is lost, and the sent count where it broadcasts. Assumes nothing.
-use Prim.Native.Nat.{ℕ, _+_, _%_}
+-- What a turn changes: marks alone, of which none is lost, and the sent count where it broadcasts; and what it broadcasts. Assumes nothing.
+use Prim.Native.Nat.{ℕ, _+_, _/_, _%_, _≤_, _<_}
 use mathlib.Core.Path.{_≡_, refl, ap, _∙_}
-use mathlib.Core.Bool.{true}
+use mathlib.Core.Bool.{true, false, true≢false}
 use mathlib.Core.List.{List}
 use native.Mathlib.Omega.{arith}
 use lib.ListN.{length, getD}
@@ -11,14 +11,19 @@ use Rattle.frame.specs.declared.Frame.{Frame}
 use Rattle.quorum.specs.Sets.{member}
 use Rattle.quorum.specs.World.{thresholdsOf}
 use Rattle.quorum.specs.declared.World.{World}
-use Rattle.host.specs.Words.{marksAt, marks, mark}
-use Rattle.turn.specs.Applying.{Turn, idle, quiet, broadcast, applied}
+use Rattle.quorum.specs.declared.Thresholds.{Thresholds}
+use Rattle.quorum.proofs.Adding.{added}
+use Rattle.host.specs.Words.{instance, VAL, AUX, marksAt, marks, sentBit, begunBit, hasSent, mark}
+use Rattle.host.specs.Record.{Valid}
+use Rattle.turn.specs.Applying.{Turn, idle, quiet, broadcast, frameAt, applied}
 use Rattle.turn.specs.Moves.{chosen}
 use Rattle.turn.specs.Turning.{turnGuards, made, turning}
 use Rattle.host.specs.declared.Host.{Host}
 use Rattle.turn.specs.declared.choosing.Move.{Move}
+use Rattle.turn.proofs.Choice.{chosen-in, echo-new, begin-new, aux-admitted, aux-none}
 use Rattle.host.proofs.Views.{sent-stays}
-use Rattle.host.proofs.Puts.{put-length, put-elsewhere, put-grows}
+use Rattle.host.proofs.Puts.{put-length, put-same, put-elsewhere, put-grows}
+use Rattle.host.proofs.Ranges.{ready-clear}
 
 -- ---- Refused and accepted
 
@@ -105,3 +110,63 @@ pub quiet-sent : (words : List ℕ) (h : Host) (w : World) (me : ℕ) {g : Host}
     → turning words h w me ≡ (accepted (quiet g), after) → g .sent ≡ h .sent
 unfolding Sent
 quiet-sent words h w me e = sent-by words h w me _ _ e
+
+-- ---- The frame
+
+-- a frame that a turn broadcasts, with the words before and after it: the host's own, new in its instance, and marked there from now on
+abbrev pub Spoken : List ℕ → List ℕ → ℕ → Frame → Type 0
+Spoken words after me f =
+    (f .sender ≡ me) × (hasSent words (f .kind) (instance (f .round) (f .phase) (f .stage)) (f .value) ≡ false)
+    × (hasSent after (f .kind) (instance (f .round) (f .phase) (f .stage)) (f .value) ≡ true)
+
+spoken : (words after : List ℕ) (kind i v me : ℕ) → i < 64 → hasSent words kind i v ≡ false → hasSent after kind i v ≡ true
+    → Spoken words after me (frameAt kind i v me)
+spoken words after kind i v me l a b =
+    let place : instance (i / 4 + 1) (i / 2 % 2 + 1) (i % 2) ≡ i = omega arith in
+    rw place (refl, a, b)
+
+marked : (words : List ℕ) (i j : ℕ) → marksAt i < length words → member (marks (mark words i j) i) j ≡ true
+unfolding marks
+marked words i j l = rw (put-same words (marksAt i) j l) (added (getD words (marksAt i) 0) j)
+
+quiet-frame : {g k : Host} {f : Frame} → broadcast g f ≡ quiet k → ⊥
+quiet-frame e = true≢false (cc)
+
+idle-frame : {g : Host} {f : Frame} → broadcast g f ≡ idle → ⊥
+idle-frame e = true≢false (cc)
+
+-- the frame and the words are those of the move
+told : (words : List ℕ) {after ws : List ℕ} (me : ℕ) {g k : Host} {f x : Frame} → broadcast g f ≡ broadcast k x → after ≡ ws
+    → Spoken words ws me x → Spoken words after me f
+told words me {f = f} {x = x} e q p =
+    let s : f ≡ x = cc in
+    rw (s, q) p
+
+speaks : (words : List ℕ) (h : Host) (s : Thresholds) (me : ℕ) (m : Move) {g : Host} {f : Frame} {after : List ℕ} → 448 ≤ length words → Valid h
+    → chosen words h s ≡ m → _≡_ {A = Turn × List ℕ} (broadcast g f, after) (applied words h me m) → Spoken words after me f
+speaks words h s me Move.Idle l d c e = absurd (idle-frame (ap (λ x. x .0) e))
+speaks words h s me (Move.Echo i v) l d c e =
+    let (in64, _) = rw c at (chosen-in words h s d) in
+    let (_, new) = echo-new words h s i v c in
+    told words me (ap (λ x. x .0) e) (ap (λ x. x .1) e) (spoken words _ VAL i v me in64 new (marked words i (sentBit VAL v) (omega arith)))
+speaks words h s me (Move.Admit i v) l d c e = absurd (quiet-frame (ap (λ x. x .0) e))
+speaks words h s me (Move.BeginUnsent i) l d c e = absurd (quiet-frame (ap (λ x. x .0) e))
+speaks words h s me (Move.Begin i v) l d c e =
+    let (in64, _) = rw c at (chosen-in words h s d) in
+    let (_, _, _, new) = begin-new words h s i v c in
+    let begun = put-length words (marksAt i) begunBit in
+    told words me (ap (λ x. x .0) e) (ap (λ x. x .1) e) (spoken words _ VAL i v me in64 new (marked (mark words i begunBit) i (sentBit VAL v) (omega arith)))
+speaks words h s me (Move.Aux i v) l d c e =
+    let (in64, _) = rw c at (chosen-in words h s d) in
+    let (_, _, none, below, _, _) = aux-admitted words h s i v c in
+    told words me (ap (λ x. x .0) e) (ap (λ x. x .1) e)
+    (spoken words _ AUX i v me in64 (aux-none words i none v below) (marked words i (sentBit AUX v) (omega arith)))
+speaks words h s me (Move.View view) l d c e = absurd (quiet-frame (ap (λ x. x .0) e))
+
+-- a host broadcasts a frame once: what a turn broadcasts is its own, was not marked as sent, and is from then on
+pub broadcast-once : (words : List ℕ) (h : Host) (w : World) (me : ℕ) {g : Host} {f : Frame} {after : List ℕ}
+    → turning words h w me ≡ (accepted (broadcast g f), after) → Spoken words after me f
+broadcast-once words h w me e =
+    let ((r, (n, (t, _))), made) = turn-made words h w me e in
+    let (l, d, _) = ready-clear (length words) h w (r, (n, (t, tt))) in
+    speaks words h (thresholdsOf w) me (chosen words h (thresholdsOf w)) l d refl made

@@ -13,7 +13,7 @@ returns : tie.Need-returns
 returns c =
     let k = c .before .before .before in
     let a = k .before .before .args in
-    sym (word-stops (now (a .sets)) (a .host) (a .world) (a .word) (a .said) (sym (k .receiver .ensures) ∙ ap gateSays (c .before .receiver2 .given .1)))
+    sym (word-stops (now (a .sets)) (a .host) (a .world) (a .word) (a .said) (sym (k .receiver .ensures) ∙ ap gateSays (c .before .hearer .given .1)))
 
 returns-2 : tie.Need-returns-2
 returns-2 c =

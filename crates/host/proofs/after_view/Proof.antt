@@ -18,8 +18,8 @@ returns-2 c =
 returns-3 : tie.Need-returns-3
 unfolding afterView
 returns-3 c =
-    let k = c .before .before .before .before .before in
-    simp (c .move-to2 .ensures, c .before .phase-estimate .ensures, ne-eqb _ _ (k .before .before .if1 .left), ← k .before .has .ensures, ← k .has2 .ensures, c .before .before .before .before .if2 .left, eq-eqb _ _ (c .before .before .if3 .taken))
+    let k = c .before .before .before .before .before .before in
+    simp (c .move-to2 .ensures, c .before .phase-estimate .ensures, c .before .before .coin-of .ensures, ne-eqb _ _ (k .before .before .if1 .left), ← k .before .has .ensures, ← k .has2 .ensures, c .before .before .before .before .before .if2 .left, eq-eqb _ _ (c .before .before .before .if3 .taken))
 
 returns-4 : tie.Need-returns-4
 unfolding afterView
@@ -31,4 +31,5 @@ pub after-view-spec : {M : Type 1} → statement M
 after-view-spec =
     tie.close
     (tie.spec (λ c κs. search needs) (λ c κs. search needs) returns (λ c κs. search needs) (λ c κs. search needs) (λ c κs. search needs) returns-2
-    (λ c κs. search needs) (λ c κs. search needs) returns-3 (λ c κs. search needs) (λ c κs. search needs) (λ c κs. search needs) returns-4)
+    (λ c κs. search needs) (λ c κs. search needs) (λ c κs. search needs) returns-3 (λ c κs. search needs) (λ c κs. search needs)
+    (λ c κs. search needs) returns-4)

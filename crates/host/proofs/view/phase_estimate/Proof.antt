@@ -6,9 +6,9 @@ use Rattle.host.proofs.view.phase_estimate.Tie as tie
 
 returns : tie.Need-returns
 unfolding phaseEstimate
-returns c = simp (c .pick .ensures, c .before .coin-of .ensures, c .before .before .only .ensures)
+returns c = simp (c .pick .ensures, c .before .only .ensures)
 
 pub phase-estimate-spec : {M : Type 1} → statement M
 phase-estimate-spec =
     tie.close
-    (tie.spec (λ c κs. search needs) (λ c κs. search needs) (λ c κs. search needs) returns)
+    (tie.spec (λ c κs. search needs) (λ c κs. search needs) returns)

@@ -1,5 +1,5 @@
 -- What the guards that are clear tell of a frame: every field is in its range. Assumes nothing.
-use Prim.Native.Nat.{ℕ, _≤_, _<_}
+use Prim.Native.Nat.{_≤_, _<_}
 use mathlib.Core.Path.{_≡_}
 use mathlib.Core.Bool.{false, _&&_, _||_}
 use native.Mathlib.Omega.{arith}

@@ -1,7 +1,7 @@
 -- After the view. Document 01, "What a host does". A view is a set of values, as a word: value v is in it where bit v is one, so that {0} is 1,
 -- {1} is 2 and {neither} is 4.
 use Prim.Native.Nat.{ℕ, _+_}
-use mathlib.Core.Bool.{Bool, cond, _&&_}
+use mathlib.Core.Bool.{cond, _&&_}
 use lib.Dec.{leb, eqb}
 use Rattle.quorum.specs.Sets.{member}
 use Rattle.host.specs.Record.{coin, moved, stood}

@@ -1,6 +1,6 @@
 -- Which move a turn makes. Document 01, "What a host does", Turn: "makes one move, or answers "idle" exactly when none applies. Kinds are tried in
 -- this order, and within echo and admit it is the first that applies, by round, phase, stage and value (0, 1, neither)".
-use Prim.Native.Nat.{ℕ, _+_, _*_, _/_, _%_}
+use Prim.Native.Nat.{ℕ, _+_, _/_, _%_}
 use mathlib.Core.Bool.{Bool, true, false, cond, _&&_, not}
 use mathlib.Core.List.{List}
 use lib.Dec.{ltb, leb, eqb}

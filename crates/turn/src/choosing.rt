@@ -1,7 +1,7 @@
 // Choosing a turn's move.
 ghost use mathlib.Core.Path.{_≡_};
 ghost use mathlib.Core.Bool.{cond};
-ghost use Prim.Native.Nat.{_+_, _*_, _<_, _≤_};
+ghost use Prim.Native.Nat.{_<_, _≤_};
 ghost use lib.ListN.{length};
 ghost use Rattle.host.specs.Record.{Valid};
 ghost use Rattle.turn.specs.Moves.{beginning, auxSent, auxChoice, answering, heard, viewOf, viewing, proceeding, chosen};

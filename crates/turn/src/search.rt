@@ -1,6 +1,6 @@
 // The searches: the first bit of a row that is set, and the first value of an instance that is due.
 ghost use mathlib.Core.Path.{_≡_};
-ghost use Prim.Native.Nat.{_+_, _*_, _<_, _≤_};
+ghost use Prim.Native.Nat.{_+_, _<_, _≤_};
 ghost use lib.ListN.{length};
 ghost use Rattle.quorum.specs.Sets.{member};
 ghost use Rattle.host.specs.First.{first};

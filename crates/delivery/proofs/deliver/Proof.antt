@@ -41,7 +41,7 @@ record-requires c κs =
     let k = c .before .before .before .before .before .before .before .before .before in
     let a = k .before .before .args in
     let (l, t) = delivered-means (now (a .sets)) (a .host) (a .world) (a .frame) (sym (k .receiver .ensures) ∙ ap gateSays (c .before .before .before .before .before .before .enum-told .given .1))
-        (sym (c .before .before .before .before .before .before .before .before .sender .ensures) ∙ ap gateSays (c .before .before .before .before .enum-told2 .given .1)) in
+    (sym (c .before .before .before .before .before .before .before .before .sender .ensures) ∙ ap gateSays (c .before .before .before .before .enum-told2 .given .1)) in
     (t, l)
 
 returns-5 : tie.Need-returns-5

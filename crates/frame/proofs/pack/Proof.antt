@@ -1,7 +1,6 @@
 -- `pack` meets its promise: what `check` refuses, then the sender, then the word. Assumes nothing.
 use mathlib.Core.Path.{sym, ap, _∙_}
 use mathlib.Core.List.{[], _∷_}
-use lib.Dec.{ltb}
 use borrow.Author.Needs.{needs}
 use borrow.Author.Tests.{lt-ltb, le-ltb}
 use Rattle.answer.specs.Answer.{accepted, _when_}

@@ -1,5 +1,4 @@
 -- `choose` meets its promise: each return by what the searches found. Assumes nothing.
-use native.Mathlib.Omega.{arith}
 use Rattle.turn.specs.Moves.{chosen}
 use Rattle.host.proofs.Ranges.{in-64}
 use borrow.Author.Needs.{needs}

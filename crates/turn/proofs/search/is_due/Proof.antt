@@ -1,6 +1,5 @@
 -- `is_due` meets its promise: an empty set is below every threshold. Assumes nothing.
-use mathlib.Core.Path.{sym, ap, _∙_}
-use Rattle.quorum.specs.Sets.{member}
+use mathlib.Core.Path.{sym, _∙_}
 use Rattle.turn.proofs.Laws.{not-due-empty, not-due-done, due-is}
 use borrow.Author.Needs.{needs}
 use Rattle.turn.proofs.search.is_due.Statement.{statement}

@@ -6,7 +6,7 @@ use mathlib.Core.List.{List}
 use native.Mathlib.Omega.{arith}
 use lib.ListN.{length, getD}
 use borrow.Author.Tests.{ne-eqb, not-false}
-use Rattle.answer.specs.Answer.{Answer, refused, accepted, past, lent}
+use Rattle.answer.specs.Answer.{Answer, refused, accepted, past}
 use Rattle.answer.proofs.Guards.{not-both, past-clear, leaves, lent-accepted, past-leaves}
 use Rattle.frame.specs.Frame.{unpacking}
 use Rattle.frame.specs.declared.Frame.{Frame}
@@ -21,30 +21,10 @@ use Rattle.host.proofs.Puts.{put-length, put-same, put-others}
 use Rattle.host.proofs.Ranges.{ready-clear}
 use Rattle.delivery.specs.Recording.{frameInstance, frameSet, heldAux, heldFrom, recordOver, recording, Told}
 use Rattle.delivery.specs.Delivery.{receiverGuards, deliverGuards, concluded, delivering, afterUnpacking, deliveringWord}
-use Rattle.delivery.specs.Parts.{outcome}
 use Rattle.delivery.specs.declared.recording.Recorded.{Recorded}
 use Rattle.delivery.proofs.Telling.{told, told-in}
 
 -- ---- Recording
-
-held-go : (words after : List ℕ) (f : Frame) (b : Bool) (p : Place) {v : ℕ}
-    → cond b (Recorded.Repeat, words) (recordOver words f p) ≡ (Recorded.Held v, after) → after ≡ words
-held-go words after f true p e = sym (ap (λ x. x .1) e)
-held-go words after f false (Place.At k) e = sym (ap (λ x. x .1) e)
-held-go words after f false Place.Nowhere e = let z = ap (λ x. x .0) e in cc
-
--- an AUX that another stands in the way of changes nothing
-pub held-leaves : (words after : List ℕ) (f : Frame) {v : ℕ} → recording words f ≡ (Recorded.Held v, after) → after ≡ words
-unfolding recording
-held-leaves words after f e =
-    held-go words after f (member (senders words (f .kind) (frameInstance f) (f .value)) (f .sender)) (heldFrom words f (frameInstance f)) e
-
--- what recording found, concluded as a delivery
-pub concluded-is : (words : List ℕ) (f : Frame) (r : Recorded) (after : List ℕ) → (r, after) ≡ recording words f
-    → _≡_ {A = Answer Unit × List ℕ} (outcome r, after) (lent words (concluded (recording words f)))
-concluded-is words f Recorded.New after e = rw (← e) refl
-concluded-is words f Recorded.Repeat after e = rw (← e) refl
-concluded-is words f (Recorded.Held v) after e = rw (← e) (ap (λ (ws : List ℕ). (refused 12, ws)) (held-leaves words after f (sym e)))
 
 left-is : {A M : Type 0} {a b : A} {before after : M} → _≡_ {A = Answer (A × M)} (accepted (a, before)) (accepted (b, after)) → before ≡ after
 left-is {A} {M} {a} {b} {before} {after} e = let z : _≡_ {A = A × M} (a, before) (b, after) = cc in ap (λ x. x .1) z

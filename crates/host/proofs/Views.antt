@@ -64,12 +64,12 @@ view-go P h a b c d m n false false false ex ey ez fa fb fc fd = fd (eqb-false (
 by-view : (P : Host → Type 0) (h : Host) (view : ℕ)
     → (h .stage ≡ 0 → P (afterFirst h view))
     → ((h .stage ≡ 0 → ⊥) → member view 0 ≡ true → member view 1 ≡ true → P (stood h 2))
-    → ((h .stage ≡ 0 → ⊥) → h .phase ≡ 1 → P (afterPhase h (phaseEstimate view (coin h))))
+    → ((h .stage ≡ 0 → ⊥) → h .phase ≡ 1 → P (afterPhase h view))
     → ((h .stage ≡ 0 → ⊥) → (h .phase ≡ 1 → ⊥) → P (afterRound h (roundEstimate view (h .est)) (decided view (h .decision))))
     → P (afterView h view)
 unfolding afterView
 by-view P h view =
-    view-go P h (afterFirst h view) (stood h 2) (afterPhase h (phaseEstimate view (coin h)))
+    view-go P h (afterFirst h view) (stood h 2) (afterPhase h view)
     (afterRound h (roundEstimate view (h .est)) (decided view (h .decision)))
     (member view 0) (member view 1) (eqb (h .stage) 0) (member view 0 && member view 1) (eqb (h .phase) 1) refl refl refl
 
@@ -125,7 +125,7 @@ later : (h : Host) → h .stage ≡ 1 → eqb (h .stage) 0 ≡ false
 later h s = ne-eqb (h .stage) 0 (λ z. omega arith)
 
 phase-one : (h : Host) (view : ℕ) → h .stage ≡ 1 → h .phase ≡ 1 → member view 0 && member view 1 ≡ false
-    → afterView h view ≡ afterPhase h (phaseEstimate view (coin h))
+    → afterView h view ≡ afterPhase h view
 unfolding afterView
 phase-one h view s p e = rw (later h s, e, eq-eqb (h .phase) 1 p) refl
 

@@ -21,7 +21,7 @@ phaseEstimate view coin = cond (eqb (onlyOf view) 2) coin (onlyOf view)
 
 -- ".. Phase 2 follows." "The own value of stage 0 is the estimate"
 abbrev pub afterPhase : Host → ℕ → Host
-afterPhase h est = moved h (h .round) 2 0 est est (h .decision)
+afterPhase h view = moved h (h .round) 2 0 (phaseEstimate view (coin h)) (phaseEstimate view (coin h)) (h .decision)
 
 -- "Stage 1, phase 2: only v (0 or 1) decides v if nothing is decided yet .."
 unfoldable pub decided : ℕ → ℕ → ℕ
@@ -42,5 +42,5 @@ unfoldable pub afterView : Host → ℕ → Host
 afterView h view =
     cond (eqb (h .stage) 0) (afterFirst h view)
     (cond (member view 0 && member view 1) (stood h 2)
-    (cond (eqb (h .phase) 1) (afterPhase h (phaseEstimate view (coin h)))
+    (cond (eqb (h .phase) 1) (afterPhase h view)
     (afterRound h (roundEstimate view (h .est)) (decided view (h .decision)))))

@@ -3,7 +3,6 @@ use Prim.Native.Nat.{ℕ, _+_, _*_, _≤_, _<_}
 use mathlib.Core.Path.{_≡_, refl, sym, ap}
 use mathlib.Core.Bool.{Bool, true, false, cond, _&&_, not, true≢false}
 use mathlib.Core.List.{List}
-use native.Mathlib.Omega.{arith}
 use lib.Dec.{ltb, leb}
 use borrow.Author.Tests.{ltb-true, leb-true, leb-false, lt-leb, not-true, not-false}
 use Rattle.answer.proofs.Tests.{both}
@@ -14,16 +13,14 @@ use Rattle.quorum.specs.declared.Thresholds.{Thresholds}
 use Rattle.quorum.proofs.Reached.{echo-over, admit-over, view-over}
 use Rattle.host.specs.First.{first}
 use Rattle.host.specs.Words.{values, VAL, AUX, marks, hasSent, admitted, begun}
-use Rattle.host.specs.Record.{finished, Valid}
+use Rattle.host.specs.Record.{finished}
 use Rattle.turn.specs.Moves.{witnesses, due, echoDue, admitDue, search, orNext, current, chosen}
 use Rattle.turn.specs.Moves.{beginning, someIn, auxSent, auxChoice, answering, heard, viewers, viewOf, viewing, proceeding}
-use Rattle.turn.specs.Applying.{InRange}
 use Rattle.host.specs.declared.Host.{Host}
 use Rattle.host.specs.declared.Place.{Place}
 use Rattle.turn.specs.declared.search.Found.{Found}
 use Rattle.turn.specs.declared.choosing.Move.{Move}
 use Rattle.host.proofs.Firsts.{first-nowhere, first-none, first-at}
-use Rattle.host.proofs.Ranges.{in-64}
 use Rattle.turn.proofs.Searches.{Foremost, NoneDue, search-at, search-nothing, search-none}
 
 -- ---- Proceed
@@ -104,26 +101,6 @@ module _ (words : List ℕ) (h : Host) (s : Thresholds) (m : Move) where
   pub chosen-first : chosen words h s ≡ m → Chosen words h s m
   unfolding chosen
   chosen-first e = echo-is (search (echoDue words s)) refl e
-
--- ---- A chosen move is in range
-
-gives-in : (words : List ℕ) (h : Host) (need : ℕ) (m : Move) → Valid h → Gives words h need m → InRange m
-gives-in words h need Move.Idle d g = tt
-gives-in words h need (Move.Echo i v) d g = absurd g
-gives-in words h need (Move.Admit i v) d g = absurd g
-gives-in words h need (Move.BeginUnsent i) d (a, _, _) = rw a (in-64 h d)
-gives-in words h need (Move.Begin i v) d (a, b, _, _) = (rw a (in-64 h d), rw b (d .own))
-gives-in words h need (Move.Aux i v) d (a, _, _, l, _, _) = (rw a (in-64 h d), omega arith)
-gives-in words h need (Move.View view) d g = tt
-
-first-in : (words : List ℕ) (h : Host) (s : Thresholds) (m : Move) → Valid h → Chosen words h s m → InRange m
-first-in words h s m d (echoes i v e f) = rw e (f .0, f .1)
-first-in words h s m d (admits i v e n f) = rw e (f .0, f .1)
-first-in words h s m d (proceeds n o e) = gives-in words h (s .view) m d (rw e at (proceeding-gives words h (s .view)))
-
--- a chosen move speaks of one of the 64 instances and one of the three values
-pub chosen-in : (words : List ℕ) (h : Host) (s : Thresholds) → Valid h → InRange (chosen words h s)
-chosen-in words h s d = first-in words h s (chosen words h s) d (chosen-first words h s (chosen words h s) refl)
 
 -- ---- Echo and admit
 

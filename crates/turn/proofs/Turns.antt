@@ -20,7 +20,8 @@ use Rattle.turn.specs.Moves.{chosen}
 use Rattle.turn.specs.Turning.{turnGuards, made, turning}
 use Rattle.host.specs.declared.Host.{Host}
 use Rattle.turn.specs.declared.choosing.Move.{Move}
-use Rattle.turn.proofs.Choice.{chosen-in, echo-new, begin-new, aux-admitted, aux-none}
+use Rattle.turn.proofs.Choice.{echo-new, begin-new, aux-admitted, aux-none}
+use Rattle.turn.proofs.Within.{chosen-in}
 use Rattle.host.proofs.Views.{sent-stays}
 use Rattle.host.proofs.Puts.{put-length, put-same, put-elsewhere, put-grows}
 use Rattle.host.proofs.Ranges.{ready-clear}

@@ -4,7 +4,7 @@ use denote.Ref.{now}
 use borrow.Author.Tests.{eq-eqb, ne-eqb}
 use Rattle.delivery.specs.Parts.{gateSays}
 use Rattle.delivery.proofs.Passing.{delivered-means, receiver-stops, sender-stops, hears}
-use Rattle.delivery.proofs.Changes.{concluded-is}
+use Rattle.delivery.proofs.Concluding.{concluded-is}
 use borrow.Author.Needs.{needs}
 use Rattle.delivery.proofs.deliver.Statement.{statement}
 use Rattle.delivery.proofs.deliver.Tie as tie

@@ -8,7 +8,7 @@ use Rattle.delivery.proofs.recording.record.Statement.{statement}
 use Rattle.delivery.proofs.recording.record.Tie as tie
 
 returns : tie.Need-returns
-unfolding recording senders
+unfolding recording senders put
 returns c =
     let k = c .before .before .before .before .before .before in
     simp (← k .instance .ensures, ← c .before .has .ensures, c .if1 .taken)

@@ -5,7 +5,7 @@ use borrow.Author.Tests.{eq-eqb, ne-eqb, le-leb, lt-leb}
 use denote.Ref.{now}
 use Rattle.turn.specs.Turning.{taking}
 use Rattle.turn.proofs.Laws.{room}
-use Rattle.turn.proofs.Choice.{chosen-in}
+use Rattle.turn.proofs.Within.{chosen-in}
 use borrow.Author.Needs.{needs}
 use Rattle.turn.proofs.applying.take.Statement.{statement}
 use Rattle.turn.proofs.applying.take.Tie as tie

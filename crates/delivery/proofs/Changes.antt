@@ -19,8 +19,9 @@ use Rattle.host.specs.declared.Place.{Place}
 use Rattle.host.proofs.Firsts.{first-nowhere}
 use Rattle.host.proofs.Puts.{put-length, put-same, put-others}
 use Rattle.host.proofs.Ranges.{ready-clear}
-use Rattle.delivery.specs.Recording.{frameInstance, frameSet, heldAux, heldFrom, recordOver, recording, Told}
+use Rattle.delivery.specs.Recording.{frameInstance, frameSet, heldAux, heldFrom, recordOver, recording}
 use Rattle.delivery.specs.Delivery.{receiverGuards, deliverGuards, concluded, delivering, afterUnpacking, deliveringWord}
+use Rattle.delivery.specs.Parts.{Told}
 use Rattle.delivery.specs.declared.recording.Recorded.{Recorded}
 use Rattle.delivery.proofs.Telling.{told, told-in}
 

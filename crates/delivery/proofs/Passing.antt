@@ -14,8 +14,9 @@ use Rattle.quorum.specs.declared.Thresholds.{Thresholds}
 use Rattle.host.specs.Calls.{readyGuards}
 use Rattle.host.specs.declared.Host.{Host}
 use Rattle.host.proofs.Ranges.{ready-clear}
-use Rattle.delivery.specs.Recording.{Told, recording, maySend}
+use Rattle.delivery.specs.Recording.{recording, maySend}
 use Rattle.delivery.specs.Delivery.{receiverGuards, senderGuards, hearingGuards, concluded, delivering, afterUnpacking, deliveringWord, asking}
+use Rattle.delivery.specs.Parts.{Told}
 use Rattle.delivery.proofs.Telling.{told}
 
 -- guards that let a call pass, and guards that refuse it

@@ -10,8 +10,9 @@ use Rattle.answer.proofs.Tests.{neither}
 use Rattle.frame.specs.Frame.{unnamed}
 use Rattle.frame.specs.declared.Frame.{Frame}
 use Rattle.quorum.specs.declared.World.{World}
-use Rattle.delivery.specs.Recording.{frameInstance, frameSet, Told}
+use Rattle.delivery.specs.Recording.{frameInstance, frameSet}
 use Rattle.delivery.specs.Delivery.{senderGuards}
+use Rattle.delivery.specs.Parts.{Told}
 
 named : (f : Frame) → unnamed f ≡ false → (f .kind < 2) × (1 ≤ f .phase) × (f .phase ≤ 2) × (f .stage < 2)
 named f u =

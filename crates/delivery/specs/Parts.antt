@@ -1,6 +1,7 @@
--- What private functions answer, for every case: these definitions serve the crate, and no promise of a call names them.
-use Prim.Native.Nat.{ℕ}
+-- What private functions answer, for every case, and what they ask: these definitions serve the crate, and no promise of a call names them.
+use Prim.Native.Nat.{ℕ, _≤_, _<_}
 use Rattle.answer.specs.Answer.{Answer, refused, accepted}
+use Rattle.frame.specs.declared.Frame.{Frame}
 use Rattle.delivery.specs.declared.gates.Gate.{Gate}
 use Rattle.delivery.specs.declared.recording.Recorded.{Recorded}
 
@@ -18,3 +19,14 @@ outcome (Recorded.Held v) = refused 12
 abbrev pub numberOf : {A : Type 0} → Answer A → ℕ
 numberOf (accepted a) = 0
 numberOf (refused k) = k
+
+-- every field of a frame in its range
+pub record Told (f : Frame) : Type 0 where
+  pub kind : f .kind < 2
+  pub round-low : 1 ≤ f .round
+  pub round-high : f .round ≤ 16
+  pub phase-low : 1 ≤ f .phase
+  pub phase-high : f .phase ≤ 2
+  pub stage : f .stage < 2
+  pub value : f .value < 3
+  pub sender : f .sender < 32

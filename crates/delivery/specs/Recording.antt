@@ -1,6 +1,6 @@
--- Recording a frame, and what 11 asks of its sender. Document 01, "What a host does", Delivery: "adds the sender to the VAL set, or records its AUX. A frame already recorded is
--- accepted and changes nothing."
-use Prim.Native.Nat.{ℕ, _≤_, _<_}
+-- Recording a frame, and what 11 asks of its sender. Document 01, "What a host does", Delivery: "adds the sender to the VAL set, or records its
+-- AUX. A frame already recorded is accepted and changes nothing."
+use Prim.Native.Nat.{ℕ}
 use mathlib.Core.Bool.{Bool, cond, _||_}
 use mathlib.Core.List.{List}
 use lib.Dec.{eqb}
@@ -38,17 +38,6 @@ unfoldable pub recording : List ℕ → Frame → Recorded × List ℕ
 recording words f =
     cond (member (senders words (f .kind) (frameInstance f) (f .value)) (f .sender)) (Recorded.Repeat, words)
     (recordOver words f (heldFrom words f (frameInstance f)))
-
--- every field of a frame in its range
-pub record Told (f : Frame) : Type 0 where
-  pub kind : f .kind < 2
-  pub round-low : 1 ≤ f .round
-  pub round-high : f .round ≤ 16
-  pub phase-low : 1 ≤ f .phase
-  pub phase-high : f .phase ≤ 2
-  pub stage : f .stage < 2
-  pub value : f .value < 3
-  pub sender : f .sender < 32
 
 -- 11: "sender is honest and has not broadcast this frame", turned round, of the sender's own words and record
 unfoldable pub maySend : List ℕ → Host → Frame → Bool

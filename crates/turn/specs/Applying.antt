@@ -51,7 +51,7 @@ applied words h me (Move.Aux i v) = (broadcast (sentOne h) (frameAt AUX i v me),
 -- "After the view"
 applied words h me (Move.View view) = (quiet (afterView h view), words)
 
--- a move's instance is one of the 64, its value one of the three
+-- a move's instance is one of the 64, its value one of the three: this serves the crate, and the promise does not name it
 abbrev pub InRange : Move → Type 0
 InRange Move.Idle = Unit
 InRange (Move.Echo i v) = (i < 64) × (v < 3)

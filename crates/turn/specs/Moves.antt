@@ -1,5 +1,6 @@
 -- Which move a turn makes. Document 01, "What a host does", Turn: "makes one move, or answers "idle" exactly when none applies. Kinds are tried in
--- this order, and within echo and admit it is the first that applies, by round, phase, stage and value (0, 1, neither)".
+-- this order, and within echo and admit it is the first that applies, by round, phase, stage and value (0, 1, neither)". The paper's Figures 1
+-- and 2, whose lines stand in brackets.
 use Prim.Native.Nat.{ℕ, _+_, _/_, _%_}
 use mathlib.Core.Bool.{Bool, true, false, cond, _&&_, not}
 use mathlib.Core.List.{List}
@@ -16,7 +17,7 @@ use Rattle.turn.specs.declared.choosing.Move.{Move}
 
 -- ---- Echo and admit
 
--- how many senders stand behind a value in an instance
+-- how many senders stand behind a value in an instance [Figure 1, witness(v)]
 abbrev pub witnesses : List ℕ → ℕ → ℕ → ℕ
 witnesses words i v = size (senders words VAL i v)
 
@@ -24,11 +25,11 @@ witnesses words i v = size (senders words VAL i v)
 unfoldable pub due : List ℕ → ℕ → ℕ → ℕ → ℕ → Bool
 due words need from i v = ltb v (values i) && leb need (witnesses words i v) && not (member (marks words i) (from + v))
 
--- "Echo: a value has t+1 or more VAL senders here and this host has not broadcast it in that instance."
+-- "Echo: a value has t+1 or more VAL senders here and this host has not broadcast it in that instance." [Figure 1, lines 2, 3]
 abbrev pub echoDue : List ℕ → Thresholds → ℕ → ℕ → Bool
 echoDue words s = due words (s .echo) (sentBit VAL 0)
 
--- "Admit: a value has 2t+1 or more VAL senders and is not admitted."
+-- "Admit: a value has 2t+1 or more VAL senders and is not admitted." [Figure 1, lines 5, 6; the admitted values are bin_values]
 abbrev pub admitDue : List ℕ → Thresholds → ℕ → ℕ → Bool
 admitDue words s = due words (s .admit) (admitBit 0)
 
@@ -45,7 +46,7 @@ search p = foundAt (first (inOrder p) 192)
 
 -- ---- Proceed, in an instance i
 
--- "(a) Not begun: begin, and broadcast VAL of the own value, unless an echo already did."
+-- "(a) Not begun: begin, and broadcast VAL of the own value, unless an echo already did." [Figure 2, line 1; Figure 1, line 1]
 unfoldable pub beginning : List ℕ → ℕ → ℕ → Move
 beginning words i own = cond (hasSent words VAL i own) (Move.BeginUnsent i) (Move.Begin i own)
 
@@ -57,7 +58,7 @@ someIn Place.Nowhere = false
 abbrev pub auxSent : List ℕ → ℕ → Bool
 auxSent words i = someIn (first (hasSent words AUX i) (values i))
 
--- "(b) Begun, no AUX sent, something admitted: broadcast AUX of the lowest admitted value."
+-- "(b) Begun, no AUX sent, something admitted: broadcast AUX of the lowest admitted value." [Figure 2, lines 2, 3]
 abbrev pub auxChoice : List ℕ → ℕ → Place
 auxChoice words i = first (admitted words i) (values i)
 
@@ -69,15 +70,15 @@ answering i Place.Nowhere = Move.Idle
 unfoldable pub heard : List ℕ → ℕ → ℕ → ℕ
 heard words i v = cond (ltb v (values i) && admitted words i v) (senders words AUX i v) 0
 
--- "senders whose recorded AUX value is admitted"
+-- "senders whose recorded AUX value is admitted" [Figure 2, line 4]
 unfoldable pub viewers : List ℕ → ℕ → ℕ
 viewers words i = union (union (heard words i 0) (heard words i 1)) (heard words i 2)
 
--- "the view is the set of the values of all those senders": bit v where someone was heard with v
+-- "the view is the set of the values of all those senders": bit v where someone was heard with v [Figure 2, line 5]
 unfoldable pub viewOf : ℕ → ℕ → ℕ → ℕ
 viewOf a b c = cond (eqb a 0) 0 1 + cond (eqb b 0) 0 2 + cond (eqb c 0) 0 4
 
--- "(c) AUX sent, and at least n−t senders whose recorded AUX value is admitted"
+-- "(c) AUX sent, and at least n−t senders whose recorded AUX value is admitted" [Figure 2, line 4]
 unfoldable pub viewing : List ℕ → ℕ → ℕ → Move
 viewing words need i =
     cond (leb need (size (viewers words i))) (Move.View (viewOf (heard words i 0) (heard words i 1) (heard words i 2))) Move.Idle

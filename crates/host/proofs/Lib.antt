@@ -1,5 +1,4 @@
 pub mod Firsts
 pub mod Ranges
 pub mod Puts
-pub mod Views
 pub mod Unique

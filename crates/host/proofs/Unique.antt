@@ -4,7 +4,7 @@ use mathlib.Core.Path.{_≡_, sym, _∙_}
 use Rattle.quorum.specs.declared.World.{World}
 use Rattle.quorum.specs.declared.Checked.{Checked}
 use Rattle.quorum.proofs.Unique.{one-checked}
-use Rattle.host.specs.Calls.{readying, Readies, Numbers, Views}
+use Rattle.host.specs.Calls.{readying, Readies, Numbers}
 use Rattle.host.specs.declared.Host.{Host}
 
 pub readies-once : (words : ℕ) (h : Host) (w : World) (a b : Checked) → Readies words h w a → Readies words h w b → a ≡ b
@@ -12,6 +12,3 @@ readies-once words h w = one-checked (readying words h w)
 
 pub numbers-once : (round phase stage a b : ℕ) → Numbers round phase stage a → Numbers round phase stage b → a ≡ b
 numbers-once round phase stage a b p q = p ∙ sym q
-
-pub views-once : (h : Host) (view : ℕ) (a b : Host) → Views h view a → Views h view b → a ≡ b
-views-once h view a b p q = p ∙ sym q

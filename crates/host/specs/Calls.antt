@@ -11,7 +11,6 @@ use Rattle.quorum.specs.declared.Thresholds.{Thresholds}
 use Rattle.quorum.specs.declared.Checked.{Checked}
 use Rattle.host.specs.Words.{instance}
 use Rattle.host.specs.Record.{badHost}
-use Rattle.host.specs.View.{afterView}
 use Rattle.host.specs.declared.Host.{Host}
 
 -- "13 comes first in any call": fewer than 448 words, or a record out of range. "A direct call given n and t gives 2, then 3, next."
@@ -28,7 +27,3 @@ Readies words host world answer = checkedSays answer ≡ readying words host wor
 -- the promise of `instance`
 abbrev pub Numbers : ℕ → ℕ → ℕ → ℕ → Type 0
 Numbers round phase stage number = number ≡ instance round phase stage
-
--- the promise of `after_view`
-abbrev pub Views : Host → ℕ → Host → Type 0
-Views host view after = after ≡ afterView host view

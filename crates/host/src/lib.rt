@@ -1,14 +1,13 @@
 // What a host is: its record, which goes by value, and its 448 words, which are lent; docs/API.md
 // says what each bit of them means, so that no content is refused. What it does with them stands in
-// the crates `delivery` and `turn`.
+// the crates `delivery`, `turn` and `view`.
 //
 // Each call takes every value of its parameters' types: none asks anything of its caller.
 mod record;
-mod view;
 
 ghost use mathlib.Core.Path.{_≡_};
 ghost use Prim.Native.Nat.{_-_};
-ghost use Rattle.host.specs.Calls.{Readies, Numbers, Views};
+ghost use Rattle.host.specs.Calls.{Readies, Numbers};
 use quorum::Checked;
 use quorum::World;
 
@@ -59,35 +58,4 @@ fn less_one(x: u8) -> usize
         return 0;
     }
     x as usize - 1
-}
-
-// Where a view takes a host. A view is a set of values: bit v is one where it holds v.
-pub fn after_view(host: Host, view: u8) -> Host
-    ensures { λ r. ⌜ Views host view r ⌝ }
-{
-    if host.stage == 0 {
-        let own = view::only(view);
-        return record::move_to(
-            host,
-            host.round,
-            host.phase,
-            1,
-            own,
-            host.est,
-            host.decision,
-        );
-    }
-    let zero = quorum::has(view as u32, 0);
-    let one = quorum::has(view as u32, 1);
-    if zero & one {
-        return record::stand(host, 2);
-    }
-    if host.phase == 1 {
-        let coin = view::coin_of(host);
-        let est = view::phase_estimate(view, coin);
-        return record::move_to(host, host.round, 2, 0, est, est, host.decision);
-    }
-    let est = view::round_estimate(view, host.est);
-    let decision = view::decision(view, host.decision);
-    view::next_round(host, est, decision)
 }

@@ -6,7 +6,7 @@ use Rattle.quorum.specs.World.{checking}
 use Rattle.quorum.specs.Sets.{member}
 use Rattle.host.specs.First.{first}
 use Rattle.host.specs.Words.{senders, marks}
-use Rattle.host.specs.View.{onlyOf, roundEstimate, decided, afterRound, afterView}
+use Rattle.view.specs.View.{onlyOf, roundEstimate, decided, afterRound, afterView}
 use Rattle.turn.specs.Moves.{due, search, heard, viewers, viewOf, viewing, proceeding, chosen}
 use Rattle.known.specs.Points.{Holds, starred, All, none, _and_}
 

@@ -9,7 +9,7 @@ use Rattle.frame.specs.declared.Frame.{Frame}
 use Rattle.quorum.specs.World.{worldOf, thresholdsOf, checking}
 use Rattle.quorum.specs.declared.Thresholds.{Thresholds}
 use Rattle.host.specs.Words.{AUX, setAt, marksAt}
-use Rattle.host.specs.View.{afterView}
+use Rattle.view.specs.View.{afterView}
 use Rattle.host.specs.declared.Host.{Host}
 use Rattle.turn.specs.Moves.{chosen}
 use Rattle.turn.specs.declared.choosing.Move.{Move}

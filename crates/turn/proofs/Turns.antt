@@ -22,7 +22,7 @@ use Rattle.host.specs.declared.Host.{Host}
 use Rattle.turn.specs.declared.choosing.Move.{Move}
 use Rattle.turn.proofs.Choice.{echo-new, begin-new, aux-admitted, aux-none}
 use Rattle.turn.proofs.Within.{chosen-in}
-use Rattle.host.proofs.Views.{sent-stays}
+use Rattle.view.proofs.Views.{sent-stays}
 use Rattle.host.proofs.Puts.{put-length, put-same, put-elsewhere, put-grows}
 use Rattle.host.proofs.Ranges.{ready-clear}
 

@@ -5,7 +5,7 @@ use mathlib.Core.List.{List}
 use Rattle.frame.specs.declared.Frame.{Frame}
 use Rattle.host.specs.Words.{VAL, AUX, sentBit, admitBit, begunBit, mark}
 use Rattle.host.specs.Record.{sentOne}
-use Rattle.host.specs.View.{afterView}
+use Rattle.view.specs.View.{afterView}
 use Rattle.host.specs.declared.Host.{Host}
 use Rattle.turn.specs.declared.choosing.Move.{Move}
 

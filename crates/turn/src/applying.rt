@@ -101,6 +101,6 @@ fn apply(sets: &mut [u32], host: Host, me: u32, chosen: Move) -> Turned
             words::put_mark(sets, inst, 7 + value);
             speak(host, 1, inst, value, me)
         }
-        Move::View(view) => Turned::Quiet(host::after_view(host, view)),
+        Move::View(view) => Turned::Quiet(view::after_view(host, view)),
     }
 }

@@ -1,9 +1,9 @@
 -- `after_view` meets its promise: each return by the tests that led there. Assumes nothing.
 use borrow.Author.Tests.{eq-eqb, ne-eqb}
-use Rattle.host.specs.View.{afterView}
+use Rattle.view.specs.View.{afterView}
 use borrow.Author.Needs.{needs}
-use Rattle.host.proofs.after_view.Statement.{statement}
-use Rattle.host.proofs.after_view.Tie as tie
+use Rattle.view.proofs.after_view.Statement.{statement}
+use Rattle.view.proofs.after_view.Tie as tie
 
 returns : tie.Need-returns
 unfolding afterView

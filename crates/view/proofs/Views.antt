@@ -7,9 +7,9 @@ use lib.Dec.{leb, eqb}
 use borrow.Author.Tests.{eqb-true, eqb-false, eq-eqb, ne-eqb}
 use Rattle.answer.proofs.Tests.{both}
 use Rattle.quorum.specs.Sets.{member}
 use Rattle.host.specs.Record.{coin, moved, stood}
-use Rattle.host.specs.View.{onlyOf, afterFirst, phaseEstimate, afterPhase, decided, roundEstimate, afterRound, afterView}
+use Rattle.view.specs.View.{onlyOf, afterFirst, phaseEstimate, afterPhase, decided, roundEstimate, afterRound, afterView}
 use Rattle.host.specs.declared.Host.{Host}
 
 -- ---- Views of one value
 

@@ -1,8 +1,8 @@
 -- `round_estimate` meets its promise. Assumes nothing.
-use Rattle.host.specs.View.{roundEstimate}
+use Rattle.view.specs.View.{roundEstimate}
 use borrow.Author.Needs.{needs}
-use Rattle.host.proofs.view.round_estimate.Statement.{statement}
-use Rattle.host.proofs.view.round_estimate.Tie as tie
+use Rattle.view.proofs.round_estimate.Statement.{statement}
+use Rattle.view.proofs.round_estimate.Tie as tie
 
 returns : tie.Need-returns
 unfolding roundEstimate

@@ -1,8 +1,8 @@
 -- `decision` meets its promise. Assumes nothing.
-use Rattle.host.specs.View.{decided}
+use Rattle.view.specs.View.{decided}
 use borrow.Author.Needs.{needs}
-use Rattle.host.proofs.view.decision.Statement.{statement}
-use Rattle.host.proofs.view.decision.Tie as tie
+use Rattle.view.proofs.decision.Statement.{statement}
+use Rattle.view.proofs.decision.Tie as tie
 
 returns : tie.Need-returns
 unfolding decided

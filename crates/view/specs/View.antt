@@ -1,11 +1,12 @@
 -- After the view. Document 01, "What a host does"; the paper's Figures 3 and 4, whose lines stand in brackets. A view is a set of values, as a
 -- word: value v is in it where bit v is one, so that {0} is 1, {1} is 2 and {neither} is 4.
 use Prim.Native.Nat.{ℕ, _+_}
+use mathlib.Core.Path.{_≡_}
 use mathlib.Core.Bool.{cond, _&&_}
 use lib.Dec.{leb, eqb}
 use Rattle.quorum.specs.Sets.{member}
 use Rattle.host.specs.Record.{coin, moved, stood}
 use Rattle.host.specs.declared.Host.{Host}
 
 -- the value of a view of one value 0 or 1, else neither
 unfoldable pub onlyOf : ℕ → ℕ
@@ -47,3 +48,7 @@ afterView h view =
     (cond (member view 0 && member view 1) (stood h 2)
     (cond (eqb (h .phase) 1) (afterPhase h view)
     (afterRound h (roundEstimate view (h .est)) (decided view (h .decision)))))
+
+-- the promise of `after_view`
+abbrev pub Views : Host → ℕ → Host → Type 0
+Views host view after = after ≡ afterView host view

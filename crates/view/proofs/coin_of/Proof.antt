@@ -3,10 +3,10 @@ use Prim.Native.Nat.{ℕ, _/_, _%_, _^_}
 use mathlib.Core.Path.{ap, _∙_}
 use native.Mathlib.Omega.{arith}
 use lib.Bits.{and-mask, and-le-r}
 use Rattle.host.specs.Record.{coin}
 use borrow.Author.Needs.{needs}
-use Rattle.host.proofs.view.coin_of.Statement.{statement}
-use Rattle.host.proofs.view.coin_of.Tie as tie
+use Rattle.view.proofs.coin_of.Statement.{statement}
+use Rattle.view.proofs.coin_of.Tie as tie
 
 cast-result-2 : tie.Need-cast-result-2
 cast-result-2 c = omega (arith, and-le-r (c .before .before .args .h .coins / 2 ^ c .before .rounds-left .result) 1)

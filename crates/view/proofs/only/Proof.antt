@@ -1,8 +1,8 @@
 -- `only` meets its promise: a choice in a choice. Assumes nothing.
-use Rattle.host.specs.View.{onlyOf}
+use Rattle.view.specs.View.{onlyOf}
 use borrow.Author.Needs.{needs}
-use Rattle.host.proofs.view.only.Statement.{statement}
-use Rattle.host.proofs.view.only.Tie as tie
+use Rattle.view.proofs.only.Statement.{statement}
+use Rattle.view.proofs.only.Tie as tie
 
 returns : tie.Need-returns
 unfolding onlyOf

@@ -1,9 +1,9 @@
 -- `next_round` meets its promise: each return by the test that led there. Assumes nothing.
 use borrow.Author.Tests.{le-leb, lt-leb}
-use Rattle.host.specs.View.{afterRound}
+use Rattle.view.specs.View.{afterRound}
 use borrow.Author.Needs.{needs}
-use Rattle.host.proofs.view.next_round.Statement.{statement}
-use Rattle.host.proofs.view.next_round.Tie as tie
+use Rattle.view.proofs.next_round.Statement.{statement}
+use Rattle.view.proofs.next_round.Tie as tie
 
 returns : tie.Need-returns
 unfolding afterRound

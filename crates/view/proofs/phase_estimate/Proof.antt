@@ -1,8 +1,8 @@
 -- `phase_estimate` meets its promise. Assumes nothing.
-use Rattle.host.specs.View.{phaseEstimate}
+use Rattle.view.specs.View.{phaseEstimate}
 use borrow.Author.Needs.{needs}
-use Rattle.host.proofs.view.phase_estimate.Statement.{statement}
-use Rattle.host.proofs.view.phase_estimate.Tie as tie
+use Rattle.view.proofs.phase_estimate.Statement.{statement}
+use Rattle.view.proofs.phase_estimate.Tie as tie
 
 returns : tie.Need-returns
 unfolding phaseEstimate

@@ -85,20 +85,20 @@ fn apply(sets: &mut [u32], host: Host, me: u32, chosen: Move) -> Turned
             speak(host, 0, inst, value, me)
         }
         Move::Admit(inst, value) => {
-            words::put_mark(sets, inst, 3 + value);
+            words::put_mark(sets, inst, words::ADMITTED + value);
             Turned::Quiet(host)
         }
         Move::BeginUnsent(inst) => {
-            words::put_mark(sets, inst, 6);
+            words::put_mark(sets, inst, words::BEGUN);
             Turned::Quiet(host)
         }
         Move::Begin(inst, value) => {
-            words::put_mark(sets, inst, 6);
+            words::put_mark(sets, inst, words::BEGUN);
             words::put_mark(sets, inst, value);
             speak(host, 0, inst, value, me)
         }
         Move::Aux(inst, value) => {
-            words::put_mark(sets, inst, 7 + value);
+            words::put_mark(sets, inst, words::AUX_SENT + value);
             speak(host, 1, inst, value, me)
         }
         Move::View(view) => Turned::Quiet(view::after_view(host, view)),

@@ -29,11 +29,11 @@ pub fn choose(sets: &[u32], host: Host, at: Thresholds) -> Move
     requires { ⌜ Valid host × (1 ≤ at .echo) × (1 ≤ at .admit) × (448 ≤ length (now sets)) ⌝ }
     ensures { λ r. ⌜ r ≡ chosen (now (sets .entry)) host at ⌝ }
 {
-    let echo = search::first_due(sets, at.echo, 0);
+    let echo = search::first_due(sets, at.echo, words::VAL_SENT);
     if let Found::At(inst, value) = echo {
         return Move::Echo(inst, value);
     }
-    let admit = search::first_due(sets, at.admit, 3);
+    let admit = search::first_due(sets, at.admit, words::ADMITTED);
     if let Found::At(inst, value) = admit {
         return Move::Admit(inst, value);
     }
@@ -50,7 +50,7 @@ fn proceed(sets: &[u32], host: Host, need: u32, inst: usize) -> Move
     if host.standing == 1 {
         return Move::Idle;
     }
-    if !quorum::has(marks, 6) {
+    if !quorum::has(marks, words::BEGUN) {
         return begin(sets, inst, host.own as usize);
     }
     if !sent_aux(sets, inst) {
@@ -77,7 +77,7 @@ fn sent_aux(sets: &[u32], inst: usize) -> bool
     ensures { λ r. ⌜ r ≡ auxSent (now (sets .entry)) inst ⌝ }
 {
     let marks = words::marks_of(sets, inst);
-    let sent = search::first_bit(marks, 7, 2 + inst % 2);
+    let sent = search::first_bit(marks, words::AUX_SENT, 2 + inst % 2);
     match sent {
         Place::At(_) => true,
         Place::Nowhere => false,
@@ -90,7 +90,7 @@ fn answer(sets: &[u32], inst: usize) -> Move
     ensures { λ r. ⌜ r ≡ answering inst (auxChoice (now (sets .entry)) inst) ⌝ }
 {
     let marks = words::marks_of(sets, inst);
-    let choice = search::first_bit(marks, 3, 2 + inst % 2);
+    let choice = search::first_bit(marks, words::ADMITTED, 2 + inst % 2);
     match choice {
         Place::At(value) => Move::Aux(inst, value),
         Place::Nowhere => Move::Idle,
@@ -103,7 +103,7 @@ fn heard_with(sets: &[u32], inst: usize, value: usize) -> u32
     ensures { λ r. ⌜ r ≡ heard (now (sets .entry)) inst value ⌝ }
 {
     let marks = words::marks_of(sets, inst);
-    let admitted = quorum::has(marks, 3 + value);
+    let admitted = quorum::has(marks, words::ADMITTED + value);
     if (value < 2 + inst % 2) & admitted {
         return words::set_of(sets, 1, inst, value);
     }

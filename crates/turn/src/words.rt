@@ -4,6 +4,13 @@ ghost use Prim.Native.Nat.{_<_, _≤_};
 ghost use lib.ListN.{length};
 ghost use Rattle.host.specs.Words.{senders, marks, mark};
 
+// The marks of an instance: from these bits on, one for each value, whether it was broadcast as VAL,
+// admitted, and sent as AUX; and whether the host has begun.
+pub const VAL_SENT: usize = 0;
+pub const ADMITTED: usize = 3;
+pub const BEGUN: usize = 6;
+pub const AUX_SENT: usize = 7;
+
 // An instance's senders of a kind and a value.
 pub fn set_of(sets: &[u32], kind: usize, inst: usize, value: usize) -> u32
     requires { ⌜ (kind < 2) × (inst < 64) × (value < 3) × (448 ≤ length (now sets)) ⌝ }

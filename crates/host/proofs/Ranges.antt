@@ -1,10 +1,10 @@
 -- What the guards that are clear tell of words, record and world. Assumes nothing.
 use Prim.Native.Nat.{ℕ, _≤_, _<_}
-use mathlib.Core.Path.{_≡_}
-use mathlib.Core.Bool.{Bool, false, _&&_, _||_, not}
+use mathlib.Core.Path.{_≡_, refl}
+use mathlib.Core.Bool.{Bool, true, false, _&&_, _||_, not}
 use native.Mathlib.Omega.{arith}
 use lib.Dec.{ltb, eqb}
-use borrow.Author.Tests.{ltb-false, eqb-false}
+use borrow.Author.Tests.{ltb-false, eqb-true, eqb-false, not-false, le-ltb, eq-eqb, ne-eqb}
 use Rattle.answer.specs.Answer.{accepted, guarded}
 use Rattle.answer.proofs.Guards.{Clear, clear}
 use Rattle.answer.proofs.Tests.{neither}
@@ -29,13 +29,21 @@ in-place r p s e =
     let phase = eqb-false p 0 (c .1) in
     omega (arith, ltb-false 16 r (d .1), ltb-false 2 p (b .1), ltb-false 1 s (a .1))
 
--- own value and estimate
-in-vote : (o e d : ℕ) (b : Bool) → ltb 2 o || ltb 1 e || ltb 2 d || b ≡ false → (o < 3) × (e < 2)
-in-vote o e d b q =
-    let x = neither (ltb 2 o || ltb 1 e || ltb 2 d) b q in
+same-as : (s o e : ℕ) (b : Bool) → eqb s 0 ≡ b → b && not (eqb o e) ≡ false → s ≡ 0 → o ≡ e
+same-as s o e true q r z = eqb-true o e (not-false (eqb o e) r)
+same-as s o e false q r z = absurd (eqb-false s 0 q z)
+
+-- own value, estimate and decision
+in-vote : (s o e d : ℕ) → ltb 2 o || ltb 1 e || ltb 2 d || (eqb s 0 && not (eqb o e)) ≡ false
+    → (o < 3) × (e < 2) × (d < 3) × (s ≡ 0 → o ≡ e)
+in-vote s o e d q =
+    let x = neither (ltb 2 o || ltb 1 e || ltb 2 d) (eqb s 0 && not (eqb o e)) q in
     let y = neither (ltb 2 o || ltb 1 e) (ltb 2 d) (x .0) in
     let z = neither (ltb 2 o) (ltb 1 e) (y .0) in
-    omega (arith, ltb-false 2 o (z .0), ltb-false 1 e (z .1))
+    let low : o < 3 = omega (arith, ltb-false 2 o (z .0)) in
+    let bit : e < 2 = omega (arith, ltb-false 1 e (z .1)) in
+    let none : d < 3 = omega (arith, ltb-false 2 d (y .1)) in
+    (low, bit, none, same-as s o e (eqb s 0) refl (x .1))
 
 -- a record that 13 does not refuse
 pub valid : (h : Host) → badHost h ≡ false → Valid h
@@ -43,8 +51,8 @@ valid h e =
     let (pv, s) = neither (badPlace h || badVote h) (badStanding h) e in
     let (p, v) = neither (badPlace h) (badVote h) pv in
     let (round-low, round-high, phase-low, phase-high, stage) = in-place (h .round) (h .phase) (h .stage) p in
-    let (own, est) = in-vote (h .own) (h .est) (h .decision) (eqb (h .stage) 0 && not (eqb (h .own) (h .est))) v in
-    let sent = ltb-false 224 (h .sent) (neither (ltb 224 (h .sent)) (ltb 3 (h .standing)) s .0) in
+    let (own, est, decision, same) = in-vote (h .stage) (h .own) (h .est) (h .decision) v in
+    let (count, place) = neither (ltb 224 (h .sent)) (ltb 3 (h .standing)) s in
     record {
       round-low = round-low;
       round-high = round-high;
@@ -53,8 +61,23 @@ valid h e =
       stage = stage;
       own = own;
       est = est;
-      sent = sent;
+      decision = decision;
+      same = same;
+      sent = ltb-false 224 (h .sent) count;
+      standing = omega (arith, ltb-false 3 (h .standing) place);
     }
+
+unlike : (s o e : ℕ) (b : Bool) → eqb s 0 ≡ b → (s ≡ 0 → o ≡ e) → b && not (eqb o e) ≡ false
+unlike s o e true q f = rw (eq-eqb o e (f (eqb-true s 0 q))) refl
+unlike s o e false q f = refl
+
+-- and such a record is not refused
+pub fits : (h : Host) → Valid h → badHost h ≡ false
+fits h d =
+    let place : badPlace h ≡ false = simp (ne-eqb (h .round) 0 (λ z. omega arith), le-ltb 16 (h .round) (d .round-high), ne-eqb (h .phase) 0 (λ z. omega arith), le-ltb 2 (h .phase) (d .phase-high), le-ltb 1 (h .stage) (omega arith)) in
+    let vote : badVote h ≡ false = simp (le-ltb 2 (h .own) (omega arith), le-ltb 1 (h .est) (omega arith), le-ltb 2 (h .decision) (omega arith), unlike (h .stage) (h .own) (h .est) (eqb (h .stage) 0) refl (d .same)) in
+    let standing : badStanding h ≡ false = simp (le-ltb 224 (h .sent) (d .sent), le-ltb 3 (h .standing) (omega arith)) in
+    rw (place, vote, standing) refl
 
 -- where a record stands is one of the 64 instances
 pub in-64 : (h : Host) → Valid h → instance (h .round) (h .phase) (h .stage) < 64

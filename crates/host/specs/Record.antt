@@ -1,6 +1,7 @@
 -- A host's record. Document 01, "Frames and run files": "a record per host: round, phase, stage, own value (in stage 0 equal to the estimate),
 -- estimate, decision, coin bits, sent count (0 to 224), standing".
 use Prim.Native.Nat.{ℕ, _+_, _-_, _/_, _%_, _^_, _≤_, _<_}
+use mathlib.Core.Path.{_≡_}
 use mathlib.Core.Bool.{Bool, _&&_, _||_, not}
 use lib.Dec.{ltb, eqb}
 use Rattle.host.specs.declared.Host.{Host}
@@ -74,7 +75,7 @@ sentOne h = record {
   coins = h .coins;
 }
 
--- every field in its range
+-- every field in its range, and in stage 0 the own value the estimate: what `badHost` lets pass
 pub record Valid (h : Host) : Type 0 where
   pub round-low : 1 ≤ h .round
   pub round-high : h .round ≤ 16
@@ -83,4 +84,7 @@ pub record Valid (h : Host) : Type 0 where
   pub stage : h .stage < 2
   pub own : h .own < 3
   pub est : h .est < 2
+  pub decision : h .decision < 3
+  pub same : h .stage ≡ 0 → h .own ≡ h .est
   pub sent : h .sent ≤ 224
+  pub standing : h .standing < 4

@@ -14,15 +14,16 @@ use Rattle.quorum.specs.declared.World.{World}
 use Rattle.quorum.specs.declared.Thresholds.{Thresholds}
 use Rattle.quorum.proofs.Adding.{added}
 use Rattle.host.specs.Words.{instance, VAL, AUX, marksAt, marks, sentBit, begunBit, hasSent, mark}
-use Rattle.host.specs.Record.{Valid}
-use Rattle.turn.specs.Applying.{Turn, idle, quiet, broadcast, frameAt, applied}
+use Rattle.host.specs.Record.{sentOne, Valid}
+use Rattle.turn.specs.Applying.{Turn, idle, quiet, broadcast, frameAt, sends, applied}
 use Rattle.turn.specs.Moves.{chosen}
 use Rattle.turn.specs.Turning.{turnGuards, made, turning}
 use Rattle.host.specs.declared.Host.{Host}
 use Rattle.turn.specs.declared.choosing.Move.{Move}
 use Rattle.turn.proofs.Choice.{echo-new, begin-new, aux-admitted, aux-none}
+use Rattle.turn.proofs.Laws.{room}
 use Rattle.turn.proofs.Within.{chosen-in}
-use Rattle.view.proofs.Views.{sent-stays}
+use Rattle.view.proofs.Views.{sent-stays, view-valid}
 use Rattle.host.proofs.Puts.{put-length, put-same, put-elsewhere, put-grows}
 use Rattle.host.proofs.Ranges.{ready-clear}
 
@@ -111,6 +112,47 @@ pub quiet-sent : (words : List ℕ) (h : Host) (w : World) (me : ℕ) {g : Host}
     → turning words h w me ≡ (accepted (quiet g), after) → g .sent ≡ h .sent
 unfolding Sent
 quiet-sent words h w me e = sent-by words h w me _ _ e
+
+-- ---- The record
+
+-- the record that an accepted turn answers, if any
+abbrev After : (Host → Type 0) → Turn → Type 0
+After P idle = Unit
+After P (quiet g) = P g
+After P (broadcast g f) = P g
+
+sent-valid : (h : Host) → Valid h → h .sent < 224 → Valid (sentOne h)
+sent-valid h d l = record {
+  round-low = d .round-low;
+  round-high = d .round-high;
+  phase-low = d .phase-low;
+  phase-high = d .phase-high;
+  stage = d .stage;
+  own = d .own;
+  est = d .est;
+  decision = d .decision;
+  same = d .same;
+  sent = omega arith;
+  standing = d .standing;
+}
+
+applied-valid : (words : List ℕ) (h : Host) (me : ℕ) (m : Move) → Valid h → (sends m ≡ true → h .sent < 224) → After Valid (applied words h me m .0)
+applied-valid words h me Move.Idle d f = tt
+applied-valid words h me (Move.Echo i v) d f = sent-valid h d (f refl)
+applied-valid words h me (Move.Admit i v) d f = d
+applied-valid words h me (Move.BeginUnsent i) d f = d
+applied-valid words h me (Move.Begin i v) d f = sent-valid h d (f refl)
+applied-valid words h me (Move.Aux i v) d f = sent-valid h d (f refl)
+applied-valid words h me (Move.View view) d f = view-valid h view d
+
+-- a turn answers a record in range, so that the next call does not refuse it by 13
+pub turn-valid : (words : List ℕ) (h : Host) (w : World) (me : ℕ) {a : Turn} {after : List ℕ} → turning words h w me ≡ (accepted a, after)
+    → After Valid a
+turn-valid words h w me {a} e =
+    let ((r, (n, (t, (g5, (g6, (g10, (full, _))))))), made) = turn-made words h w me e in
+    let (_, d, _) = ready-clear (length words) h w (r, (n, (t, tt))) in
+    let m = chosen words h (thresholdsOf w) in
+    rw (ap (λ x. x .0) made) (applied-valid words h me m d (room h (sends m) (d .sent) full))
 
 -- ---- The frame
 

@@ -7,8 +7,11 @@ ghost use Rattle.host.specs.Words.{senders, marks, mark};
 // The marks of an instance: from these bits on, one for each value, whether it was broadcast as VAL,
 // admitted, and sent as AUX; and whether the host has begun.
 pub const VAL_SENT: usize = 0;
+
 pub const ADMITTED: usize = 3;
+
 pub const BEGUN: usize = 6;
+
 pub const AUX_SENT: usize = 7;
 
 // An instance's senders of a kind and a value.

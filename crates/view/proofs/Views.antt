@@ -1,13 +1,13 @@
 -- What a view makes of a host's record: document 01's "After the view", each of its sentences. Assumes nothing.
-use Prim.Native.Nat.{ℕ, _+_}
+use Prim.Native.Nat.{ℕ, _+_, _<_}
 use mathlib.Core.Path.{_≡_, refl, sym, _∙_}
 use mathlib.Core.Bool.{Bool, true, false, cond, _&&_}
 use native.Mathlib.Omega.{arith}
 use lib.Dec.{leb, eqb}
-use borrow.Author.Tests.{eqb-true, eqb-false, eq-eqb, ne-eqb}
+use borrow.Author.Tests.{leb-false, eqb-true, eqb-false, eq-eqb, ne-eqb}
 use Rattle.answer.proofs.Tests.{both}
 use Rattle.quorum.specs.Sets.{member}
-use Rattle.host.specs.Record.{coin, moved, stood}
+use Rattle.host.specs.Record.{coin, moved, stood, Valid}
 use Rattle.view.specs.View.{onlyOf, afterFirst, phaseEstimate, afterPhase, decided, roundEstimate, afterRound, afterView}
 use Rattle.host.specs.declared.Host.{Host}
 
@@ -205,3 +205,103 @@ pub coins-stay : (h : Host) (view : ℕ) → afterView h view .coins ≡ h .coin
 coins-stay h view =
     by-view (λ g. g .coins ≡ h .coins) h view (λ s. refl) (λ s l r. refl) (λ s p. refl)
     (λ s p. by-round (λ g. g .coins ≡ h .coins) h _ _ refl refl)
+
+-- ---- Ranges
+
+only-low : (view : ℕ) → onlyOf view < 3
+only-low view = by-only (λ v o. o < 3) view (omega arith) (omega arith) (λ p q. omega arith)
+
+coin-low : (h : Host) → coin h < 2
+unfolding coin
+coin-low h = omega arith
+
+phase-low : (view c : ℕ) → c < 2 → phaseEstimate view c < 2
+unfolding phaseEstimate
+phase-low view c l = by-only (λ v o. cond (eqb o 2) c o < 2) view (omega arith) (omega arith) (λ p q. l)
+
+round-low : (view est : ℕ) → est < 2 → roundEstimate view est < 2
+unfolding roundEstimate
+round-low view est l = cond-both (λ x. x < 2) (member view 0) 0 _ (omega arith) (cond-both (λ x. x < 2) (member view 1) 1 est (omega arith) l)
+
+decided-low : (view d : ℕ) → d < 3 → decided view d < 3
+unfolding decided
+decided-low view d l = cond-both (λ x. x < 3) (eqb d 2) (onlyOf view) d (only-low view) l
+
+next-valid : (h : Host) (est decision : ℕ) (b : Bool) → leb 16 (h .round) ≡ b → Valid h → est < 2 → decision < 3 → (h .stage ≡ 0 → ⊥)
+    → Valid (cond b (stood (moved h (h .round) (h .phase) (h .stage) (h .own) est decision) 1) (moved h (h .round + 1) 1 0 est est decision))
+next-valid h est decision true e d l m n =
+    record {
+      round-low = d .round-low;
+      round-high = d .round-high;
+      phase-low = d .phase-low;
+      phase-high = d .phase-high;
+      stage = d .stage;
+      own = d .own;
+      est = l;
+      decision = m;
+      same = λ z. absurd (n z);
+      sent = d .sent;
+      standing = omega arith;
+    }
+next-valid h est decision false e d l m n =
+    let below = leb-false 16 (h .round) e in
+    record {
+      round-low = omega arith;
+      round-high = omega arith;
+      phase-low = omega arith;
+      phase-high = omega arith;
+      stage = omega arith;
+      own = omega arith;
+      est = l;
+      decision = m;
+      same = λ z. refl;
+      sent = d .sent;
+      standing = d .standing;
+    }
+
+-- a view takes a record in range to one in range: what a call answers, the next call does not refuse by 13
+pub view-valid : (h : Host) (view : ℕ) → Valid h → Valid (afterView h view)
+unfolding afterRound
+view-valid h view d =
+    let est = phase-low view (coin h) (coin-low h) in
+    by-view Valid h view
+    (λ s. record {
+      round-low = d .round-low;
+      round-high = d .round-high;
+      phase-low = d .phase-low;
+      phase-high = d .phase-high;
+      stage = omega arith;
+      own = only-low view;
+      est = d .est;
+      decision = d .decision;
+      same = λ z. absurd (omega arith);
+      sent = d .sent;
+      standing = d .standing;
+    })
+    (λ s l r. record {
+      round-low = d .round-low;
+      round-high = d .round-high;
+      phase-low = d .phase-low;
+      phase-high = d .phase-high;
+      stage = d .stage;
+      own = d .own;
+      est = d .est;
+      decision = d .decision;
+      same = d .same;
+      sent = d .sent;
+      standing = omega arith;
+    })
+    (λ s p. record {
+      round-low = d .round-low;
+      round-high = d .round-high;
+      phase-low = omega arith;
+      phase-high = omega arith;
+      stage = omega arith;
+      own = omega arith;
+      est = est;
+      decision = d .decision;
+      same = λ z. refl;
+      sent = d .sent;
+      standing = d .standing;
+    })
+    (λ s p. next-valid h _ _ (leb 16 (h .round)) refl d (round-low view (h .est) (d .est)) (decided-low view (h .decision) (d .decision)) s)

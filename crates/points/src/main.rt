@@ -1,14 +1,16 @@
-// Runs document 01's known points on sizes and frames, with a star or without, and prints what the
-// calls answer. Then numbers and frames that are no world and no frame.
+// Runs document 01's known points on sizes, frames and the decision of phase 2, with a star or
+// without, and prints what the calls answer. Then numbers and frames that are no world and no frame.
 use frame::Frame;
 use frame::Packed;
 use frame::Unpacked;
+use host::Host;
 use libc::STDOUT_FILENO;
 use quorum::Checked;
 
 fn main() {
     known_sizes();
     known_words();
+    known_decision();
     bad_sizes();
     bad_frames();
 }
@@ -32,6 +34,15 @@ fn known_words() {
     unpack(0x0260);
     unpack(0x02c0);
     unpack(0x8000);
+}
+
+// Phase 2, estimate 0, view {1}, undecided; then the same with the view {1, neither}, {neither} and,
+// as more than t liars could make it, {0, 1}.
+fn known_decision() {
+    view(2);
+    view(6);
+    view(4);
+    view(3);
 }
 
 // Both ends of the numbers' type, 2 before 3, and a t whose threefold would wrap.
@@ -110,6 +121,30 @@ fn pack(kind: u8, round: u8, phase: u8, stage: u8, value: u8, sender: u8) {
             print(b": refused ", number as u32);
         }
     }
+    end_line();
+}
+
+fn view(values: u8) {
+    let before = Host {
+        round: 1,
+        phase: 2,
+        stage: 1,
+        own: 2,
+        est: 0,
+        decision: 2,
+        sent: 2,
+        standing: 0,
+        coins: 0,
+    };
+    let after = view::after_view(before, values);
+    print(b"view ", values as u32);
+    print(b": round ", after.round as u32);
+    print(b" phase ", after.phase as u32);
+    print(b" stage ", after.stage as u32);
+    print(b" own ", after.own as u32);
+    print(b" est ", after.est as u32);
+    print(b" decision ", after.decision as u32);
+    print(b" standing ", after.standing as u32);
     end_line();
 }
 

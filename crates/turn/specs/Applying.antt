@@ -36,20 +36,36 @@ sends (Move.Begin i v) = true
 sends (Move.Aux i v) = true
 sends (Move.View view) = false
 
-abbrev pub applied : List ℕ → Host → ℕ → Move → Turn × List ℕ
-applied words h me Move.Idle = (idle, words)
--- "It does": broadcasts VAL v
-applied words h me (Move.Echo i v) = (broadcast (sentOne h) (frameAt VAL i v me), mark words i (sentBit VAL v))
--- "It is now": admitted
-applied words h me (Move.Admit i v) = (quiet h, mark words i (admitBit v))
--- "begin", where an echo had broadcast the own value
-applied words h me (Move.BeginUnsent i) = (quiet h, mark words i begunBit)
+-- what the turn answers, with the record after the move
+abbrev pub answered : Host → ℕ → Move → Turn
+answered h me Move.Idle = idle
+-- Echo: "It does": broadcasts VAL v
+answered h me (Move.Echo i v) = broadcast (sentOne h) (frameAt VAL i v me)
+answered h me (Move.Admit i v) = quiet h
+answered h me (Move.BeginUnsent i) = quiet h
 -- "begin, and broadcast VAL of the own value"
-applied words h me (Move.Begin i v) = (broadcast (sentOne h) (frameAt VAL i v me), mark (mark words i begunBit) i (sentBit VAL v))
+answered h me (Move.Begin i v) = broadcast (sentOne h) (frameAt VAL i v me)
 -- "broadcast AUX"
-applied words h me (Move.Aux i v) = (broadcast (sentOne h) (frameAt AUX i v me), mark words i (sentBit AUX v))
+answered h me (Move.Aux i v) = broadcast (sentOne h) (frameAt AUX i v me)
 -- "After the view"
-applied words h me (Move.View view) = (quiet (afterView h view), words)
+answered h me (Move.View view) = quiet (afterView h view)
+
+-- what it marks
+abbrev pub markedBy : List ℕ → Move → List ℕ
+markedBy words Move.Idle = words
+-- broadcast as VAL
+markedBy words (Move.Echo i v) = mark words i (sentBit VAL v)
+-- Admit: "It is now"
+markedBy words (Move.Admit i v) = mark words i (admitBit v)
+-- "begin", where an echo had broadcast the own value, and where none had
+markedBy words (Move.BeginUnsent i) = mark words i begunBit
+markedBy words (Move.Begin i v) = mark (mark words i begunBit) i (sentBit VAL v)
+-- sent as AUX
+markedBy words (Move.Aux i v) = mark words i (sentBit AUX v)
+markedBy words (Move.View view) = words
+
+abbrev pub applied : List ℕ → Host → ℕ → Move → Turn × List ℕ
+applied words h me m = (answered h me m, markedBy words m)
 
 -- a move's instance is one of the 64, its value one of the three: this serves the crate, and the promise does not name it
 abbrev pub InRange : Move → Type 0

@@ -6,7 +6,7 @@ ghost use Prim.Native.Nat.{ℕ, _<_, _≤_};
 ghost use lib.ListN.{length};
 ghost use Rattle.answer.specs.Answer.{Answer, accepted, lent};
 ghost use Rattle.host.specs.Record.{Valid, sentOne};
-ghost use Rattle.turn.specs.Applying.{Turn, frameAt, sends, applied, InRange};
+ghost use Rattle.turn.specs.Applying.{Turn, frameAt, sends, answered, markedBy, applied, InRange};
 ghost use Rattle.turn.specs.Turning.{turnedSays, taking};
 ghost use Rattle.turn.specs.declared.Turned.{Turned};
 use crate::Turned;
@@ -73,34 +73,54 @@ fn speak(mut host: Host, kind: u8, inst: usize, value: usize, me: u32) -> Turned
     )
 }
 
-// Makes a move.
+// Makes a move: its marks, and what the turn answers.
 fn apply(sets: &mut [u32], host: Host, me: u32, chosen: Move) -> Turned
-    requires { ⌜ Valid host × InRange chosen × (me < 32) × (448 ≤ length (now sets)) × (sends chosen ≡ true → host .sent < 224) ⌝ }
+    requires { ⌜ InRange chosen × (me < 32) × (448 ≤ length (now sets)) × (sends chosen ≡ true → host .sent < 224) ⌝ }
     ensures { λ r. ⌜ _≡_ {A = Answer Turn × List ℕ} (turnedSays r, now (sets .exit)) (lent (now (sets .entry)) (accepted (applied (now (sets .entry)) host me chosen))) ⌝ }
 {
+    put_marks(sets, chosen);
+    answer(host, me, chosen)
+}
+
+// What a move marks.
+fn put_marks(sets: &mut [u32], chosen: Move)
+    requires { ⌜ InRange chosen × (448 ≤ length (now sets)) ⌝ }
+    ensures { λ _. ⌜ now (sets .exit) ≡ markedBy (now (sets .entry)) chosen ⌝ }
+{
     match chosen {
-        Move::Idle => Turned::Idle,
+        Move::Idle => {}
         Move::Echo(inst, value) => {
             words::put_mark(sets, inst, value);
-            speak(host, 0, inst, value, me)
         }
         Move::Admit(inst, value) => {
             words::put_mark(sets, inst, words::ADMITTED + value);
-            Turned::Quiet(host)
         }
         Move::BeginUnsent(inst) => {
             words::put_mark(sets, inst, words::BEGUN);
-            Turned::Quiet(host)
         }
         Move::Begin(inst, value) => {
             words::put_mark(sets, inst, words::BEGUN);
             words::put_mark(sets, inst, value);
-            speak(host, 0, inst, value, me)
         }
         Move::Aux(inst, value) => {
             words::put_mark(sets, inst, words::AUX_SENT + value);
-            speak(host, 1, inst, value, me)
         }
+        Move::View(_) => {}
+    }
+}
+
+// What the turn answers.
+fn answer(host: Host, me: u32, chosen: Move) -> Turned
+    requires { ⌜ InRange chosen × (me < 32) × (sends chosen ≡ true → host .sent < 224) ⌝ }
+    ensures { λ r. ⌜ turnedSays r ≡ accepted (answered host me chosen) ⌝ }
+{
+    match chosen {
+        Move::Idle => Turned::Idle,
+        Move::Echo(inst, value) => speak(host, 0, inst, value, me),
+        Move::Admit(_, _) => Turned::Quiet(host),
+        Move::BeginUnsent(_) => Turned::Quiet(host),
+        Move::Begin(inst, value) => speak(host, 0, inst, value, me),
+        Move::Aux(inst, value) => speak(host, 1, inst, value, me),
         Move::View(view) => Turned::Quiet(view::after_view(host, view)),
     }
 }

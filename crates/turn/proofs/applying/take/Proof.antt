@@ -32,7 +32,6 @@ apply-requires : tie.Need-apply-requires
 apply-requires c κs =
     let k = c .before .before .before .before .before .before .before .before .before .before .before .before in
     let chosen = c .before .before .before .before .choose in (
-      k .pre .0,
       rw (← chosen .ensures) at (chosen-in (now (k .args .sets)) (k .args .host) (k .args .at) (k .pre .0)),
       omega arith,
       search needs,

@@ -13,7 +13,7 @@ use Rattle.quorum.specs.declared.World.{World}
 use Rattle.quorum.specs.declared.Thresholds.{Thresholds}
 use Rattle.quorum.proofs.Reached.{Sized, sized}
 use Rattle.host.specs.Words.{instance}
-use Rattle.host.specs.Record.{badPlace, badVote, badStanding, badHost, Valid}
+use Rattle.host.specs.Record.{badPlace, badVote, badStanding, badHost, moved, stood, sentOne, Valid}
 use Rattle.host.specs.Calls.{readyGuards}
 use Rattle.host.specs.declared.Host.{Host}
 
@@ -78,6 +78,57 @@ fits h d =
     let vote : badVote h ≡ false = simp (le-ltb 2 (h .own) (omega arith), le-ltb 1 (h .est) (omega arith), le-ltb 2 (h .decision) (omega arith), unlike (h .stage) (h .own) (h .est) (eqb (h .stage) 0) refl (d .same)) in
     let standing : badStanding h ≡ false = simp (le-ltb 224 (h .sent) (d .sent), le-ltb 3 (h .standing) (omega arith)) in
     rw (place, vote, standing) refl
+
+-- a record that is written to is in range where what is written is
+pub moved-valid : (h : Host) (round phase stage own est decision : ℕ) → Valid h
+    → (1 ≤ round) × (round ≤ 16) × (1 ≤ phase) × (phase ≤ 2) × (stage < 2) × (own < 3) × (est < 2) × (decision < 3)
+    → (stage ≡ 0 → own ≡ est) → Valid (moved h round phase stage own est decision)
+moved-valid h round phase stage own est decision d (r, s, p, q, t, o, e, c) same =
+    record {
+      round-low = r;
+      round-high = s;
+      phase-low = p;
+      phase-high = q;
+      stage = t;
+      own = o;
+      est = e;
+      decision = c;
+      same = same;
+      sent = d .sent;
+      standing = d .standing;
+    }
+
+pub stood-valid : (h : Host) (standing : ℕ) → Valid h → standing < 4 → Valid (stood h standing)
+stood-valid h standing d l =
+    record {
+      round-low = d .round-low;
+      round-high = d .round-high;
+      phase-low = d .phase-low;
+      phase-high = d .phase-high;
+      stage = d .stage;
+      own = d .own;
+      est = d .est;
+      decision = d .decision;
+      same = d .same;
+      sent = d .sent;
+      standing = l;
+    }
+
+pub sent-valid : (h : Host) → Valid h → h .sent < 224 → Valid (sentOne h)
+sent-valid h d l =
+    record {
+      round-low = d .round-low;
+      round-high = d .round-high;
+      phase-low = d .phase-low;
+      phase-high = d .phase-high;
+      stage = d .stage;
+      own = d .own;
+      est = d .est;
+      decision = d .decision;
+      same = d .same;
+      sent = omega arith;
+      standing = d .standing;
+    }
 
 -- where a record stands is one of the 64 instances
 pub in-64 : (h : Host) → Valid h → instance (h .round) (h .phase) (h .stage) < 64

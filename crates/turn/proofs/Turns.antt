@@ -14,7 +14,7 @@ use Rattle.quorum.specs.declared.World.{World}
 use Rattle.quorum.specs.declared.Thresholds.{Thresholds}
 use Rattle.quorum.proofs.Adding.{added}
 use Rattle.host.specs.Words.{instance, VAL, AUX, marksAt, marks, sentBit, begunBit, hasSent, mark}
-use Rattle.host.specs.Record.{sentOne, Valid}
+use Rattle.host.specs.Record.{Valid}
 use Rattle.turn.specs.Applying.{Turn, idle, quiet, broadcast, frameAt, sends, applied}
 use Rattle.turn.specs.Moves.{chosen}
 use Rattle.turn.specs.Turning.{turnGuards, made, turning}
@@ -25,7 +25,7 @@ use Rattle.turn.proofs.Laws.{room}
 use Rattle.turn.proofs.Within.{chosen-in}
 use Rattle.view.proofs.Views.{sent-stays, view-valid}
 use Rattle.host.proofs.Puts.{put-length, put-same, put-elsewhere, put-grows}
-use Rattle.host.proofs.Ranges.{ready-clear}
+use Rattle.host.proofs.Ranges.{ready-clear, sent-valid}
 
 -- ---- Refused and accepted
 
@@ -120,21 +120,6 @@ abbrev After : (Host → Type 0) → Turn → Type 0
 After P idle = Unit
 After P (quiet g) = P g
 After P (broadcast g f) = P g
-
-sent-valid : (h : Host) → Valid h → h .sent < 224 → Valid (sentOne h)
-sent-valid h d l = record {
-  round-low = d .round-low;
-  round-high = d .round-high;
-  phase-low = d .phase-low;
-  phase-high = d .phase-high;
-  stage = d .stage;
-  own = d .own;
-  est = d .est;
-  decision = d .decision;
-  same = d .same;
-  sent = omega arith;
-  standing = d .standing;
-}
 
 applied-valid : (words : List ℕ) (h : Host) (me : ℕ) (m : Move) → Valid h → (sends m ≡ true → h .sent < 224) → After Valid (applied words h me m .0)
 applied-valid words h me Move.Idle d f = tt

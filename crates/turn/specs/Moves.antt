@@ -33,7 +33,7 @@ echoDue words s = due words (s .echo) (sentBit VAL 0)
 abbrev pub admitDue : List ℕ → Thresholds → ℕ → ℕ → Bool
 admitDue words s = due words (s .admit) (admitBit 0)
 
--- "the first that applies, by round, phase, stage and value": the instances in order, and in each the values in order
+-- "the first that applies, by round, phase, stage and value": the 64 instances in order, and in each its three values in order
 abbrev pub inOrder : (ℕ → ℕ → Bool) → ℕ → Bool
 inOrder p k = p (k / 3) (k % 3)
 

@@ -40,6 +40,7 @@ pub fn take(sets: &mut [u32], host: Host, at: Thresholds, n: u32, me: u32) -> Tu
     apply(sets, host, me, chosen)
 }
 
+// Whether a move broadcasts a frame.
 fn broadcasts(chosen: Move) -> bool
     ensures { λ r. ⌜ r ≡ sends chosen ⌝ }
 {

@@ -8,6 +8,7 @@ use borrow.Author.Tests.{leb-false, eqb-true, eqb-false, eq-eqb, ne-eqb}
 use Rattle.answer.proofs.Tests.{both}
 use Rattle.quorum.specs.Sets.{member}
 use Rattle.host.specs.Record.{coin, moved, stood, Valid}
+use Rattle.host.proofs.Ranges.{moved-valid, stood-valid}
 use Rattle.view.specs.View.{onlyOf, afterFirst, phaseEstimate, afterPhase, decided, roundEstimate, afterRound, afterView}
 use Rattle.host.specs.declared.Host.{Host}
 
@@ -230,78 +231,20 @@ decided-low view d l = cond-both (λ x. x < 3) (eqb d 2) (onlyOf view) d (only-l
 next-valid : (h : Host) (est decision : ℕ) (b : Bool) → leb 16 (h .round) ≡ b → Valid h → est < 2 → decision < 3 → (h .stage ≡ 0 → ⊥)
     → Valid (cond b (stood (moved h (h .round) (h .phase) (h .stage) (h .own) est decision) 1) (moved h (h .round + 1) 1 0 est est decision))
 next-valid h est decision true e d l m n =
-    record {
-      round-low = d .round-low;
-      round-high = d .round-high;
-      phase-low = d .phase-low;
-      phase-high = d .phase-high;
-      stage = d .stage;
-      own = d .own;
-      est = l;
-      decision = m;
-      same = λ z. absurd (n z);
-      sent = d .sent;
-      standing = omega arith;
-    }
+    stood-valid (moved h (h .round) (h .phase) (h .stage) (h .own) est decision) 1
+    (moved-valid h _ _ _ _ _ _ d (omega arith) (λ z. absurd (n z))) (omega arith)
 next-valid h est decision false e d l m n =
     let below = leb-false 16 (h .round) e in
-    record {
-      round-low = omega arith;
-      round-high = omega arith;
-      phase-low = omega arith;
-      phase-high = omega arith;
-      stage = omega arith;
-      own = omega arith;
-      est = l;
-      decision = m;
-      same = λ z. refl;
-      sent = d .sent;
-      standing = d .standing;
-    }
+    moved-valid h _ _ _ _ _ _ d (omega arith) (λ z. refl)
 
 -- a view takes a record in range to one in range: what a call answers, the next call does not refuse by 13
 pub view-valid : (h : Host) (view : ℕ) → Valid h → Valid (afterView h view)
 unfolding afterRound
 view-valid h view d =
+    let own = only-low view in
     let est = phase-low view (coin h) (coin-low h) in
     by-view Valid h view
-    (λ s. record {
-      round-low = d .round-low;
-      round-high = d .round-high;
-      phase-low = d .phase-low;
-      phase-high = d .phase-high;
-      stage = omega arith;
-      own = only-low view;
-      est = d .est;
-      decision = d .decision;
-      same = λ z. absurd (omega arith);
-      sent = d .sent;
-      standing = d .standing;
-    })
-    (λ s l r. record {
-      round-low = d .round-low;
-      round-high = d .round-high;
-      phase-low = d .phase-low;
-      phase-high = d .phase-high;
-      stage = d .stage;
-      own = d .own;
-      est = d .est;
-      decision = d .decision;
-      same = d .same;
-      sent = d .sent;
-      standing = omega arith;
-    })
-    (λ s p. record {
-      round-low = d .round-low;
-      round-high = d .round-high;
-      phase-low = omega arith;
-      phase-high = omega arith;
-      stage = omega arith;
-      own = omega arith;
-      est = est;
-      decision = d .decision;
-      same = λ z. refl;
-      sent = d .sent;
-      standing = d .standing;
-    })
+    (λ s. moved-valid h _ _ _ _ _ _ d (omega arith) (λ z. absurd (omega arith)))
+    (λ s l r. stood-valid h 2 d (omega arith))
+    (λ s p. moved-valid h _ _ _ _ _ _ d (omega arith) (λ z. refl))
     (λ s p. next-valid h _ _ (leb 16 (h .round)) refl d (round-low view (h .est) (d .est)) (decided-low view (h .decision) (d .decision)) s)

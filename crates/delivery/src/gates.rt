@@ -18,7 +18,7 @@ pub enum Gate {
 }
 
 // Whether a host with so many words can be delivered to: refusals 13, 2, 3, 6.
-pub fn receiver(words: usize, host: Host, world: World) -> Gate
+pub(crate) fn receiver(words: usize, host: Host, world: World) -> Gate
     ensures { λ r. ⌜ gateSays r ≡ guarded (receiverGuards words host world) tt ⌝ }
 {
     let ready = host::ready(words, host, world);
@@ -32,7 +32,7 @@ pub fn receiver(words: usize, host: Host, world: World) -> Gate
 }
 
 // Whether a frame can be said, and by a host of this world: refusals 8, 9, 5.
-pub fn sender(world: World, frame: Frame) -> Gate
+pub(crate) fn sender(world: World, frame: Frame) -> Gate
     ensures { λ r. ⌜ gateSays r ≡ guarded (senderGuards world frame) tt ⌝ }
 {
     let sound = frame::check(frame);
@@ -46,7 +46,7 @@ pub fn sender(world: World, frame: Frame) -> Gate
 }
 
 // The number that refuses a word, 0 where it was read.
-pub fn number(unpacked: Unpacked) -> u8
+pub(crate) fn number(unpacked: Unpacked) -> u8
     ensures { λ r. ⌜ r ≡ numberOf (unpackedSays unpacked) ⌝ }
 {
     match unpacked {

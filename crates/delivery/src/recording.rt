@@ -45,7 +45,7 @@ fn held_from(sets: &[u32], frame: Frame, inst: usize) -> Place
 }
 
 // Records a frame.
-pub fn record(sets: &mut [u32], frame: Frame) -> Recorded
+pub(crate) fn record(sets: &mut [u32], frame: Frame) -> Recorded
     requires { ⌜ Told frame × (448 ≤ length (now sets)) ⌝ }
     ensures { λ r. ⌜ _≡_ {A = Recorded × List ℕ} (r, now (sets .exit)) (recording (now (sets .entry)) frame) ⌝ }
 {
@@ -64,7 +64,7 @@ pub fn record(sets: &mut [u32], frame: Frame) -> Recorded
 }
 
 // Whether a host with these words and this record may have sent a frame.
-pub fn may_come(sets: &[u32], host: Host, frame: Frame) -> bool
+pub(crate) fn may_come(sets: &[u32], host: Host, frame: Frame) -> bool
     requires { ⌜ Told frame × (448 ≤ length (now sets)) ⌝ }
     ensures { λ r. ⌜ r ≡ maySend (now (sets .entry)) host frame ⌝ }
 {

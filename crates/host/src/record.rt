@@ -4,7 +4,7 @@ ghost use Rattle.host.specs.Record.{badHost};
 use crate::Host;
 
 // A field outside its range, or in stage 0 an own value other than the estimate.
-pub fn out_of_range(h: Host) -> bool
+pub(crate) fn out_of_range(h: Host) -> bool
     ensures { λ r. ⌜ r ≡ badHost h ⌝ }
 {
     ((h.round == 0) | (16 < h.round) | (h.phase == 0) | (2 < h.phase) | (1 < h.stage))

@@ -19,7 +19,7 @@ use quorum::Thresholds;
 
 // The turn of a host whose thresholds are known: refusals 5, 6, 10, and 13 where the move would
 // broadcast with the sent count at 224.
-pub fn take(sets: &mut [u32], host: Host, at: Thresholds, n: u32, me: u32) -> Turned
+pub(crate) fn take(sets: &mut [u32], host: Host, at: Thresholds, n: u32, me: u32) -> Turned
     requires { ⌜ Valid host × (1 ≤ at .echo) × (1 ≤ at .admit) × (n ≤ 32) × (448 ≤ length (now sets)) ⌝ }
     ensures { λ r. ⌜ _≡_ {A = Answer Turn × List ℕ} (turnedSays r, now (sets .exit)) (taking (now (sets .entry)) host at n me) ⌝ }
 {

@@ -25,7 +25,7 @@ pub enum Move {
 }
 
 // Echo, else admit, else proceed.
-pub fn choose(sets: &[u32], host: Host, at: Thresholds) -> Move
+pub(crate) fn choose(sets: &[u32], host: Host, at: Thresholds) -> Move
     requires { ⌜ Valid host × (1 ≤ at .echo) × (1 ≤ at .admit) × (448 ≤ length (now sets)) ⌝ }
     ensures { λ r. ⌜ r ≡ chosen (now (sets .entry)) host at ⌝ }
 {

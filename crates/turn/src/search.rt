@@ -15,7 +15,7 @@ pub enum Found {
 }
 
 // The first of a word's `count` bits from bit `from` on that is one, counted from there.
-pub fn first_bit(word: u32, from: usize, count: usize) -> Place
+pub(crate) fn first_bit(word: u32, from: usize, count: usize) -> Place
     requires { ⌜ (from ≤ 8) × (count ≤ 3) ⌝ }
     ensures { λ r. ⌜ r ≡ first (λ v. member word (from + v)) count ⌝ }
 {
@@ -48,7 +48,7 @@ fn is_due(sets: &[u32], need: u32, from: usize, inst: usize, value: usize) -> bo
 }
 
 // The first that is due, by round, phase, stage and value.
-pub fn first_due(sets: &[u32], need: u32, from: usize) -> Found
+pub(crate) fn first_due(sets: &[u32], need: u32, from: usize) -> Found
     requires { ⌜ (1 ≤ need) × (from ≤ 3) × (448 ≤ length (now sets)) ⌝ }
     ensures { λ r. ⌜ r ≡ search (due (now (sets .entry)) need from) ⌝ }
 {

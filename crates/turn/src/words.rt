@@ -15,7 +15,7 @@ pub const BEGUN: usize = 6;
 pub const AUX_SENT: usize = 7;
 
 // An instance's senders of a kind and a value.
-pub fn set_of(sets: &[u32], kind: usize, inst: usize, value: usize) -> u32
+pub(crate) fn set_of(sets: &[u32], kind: usize, inst: usize, value: usize) -> u32
     requires { ⌜ (kind < 2) × (inst < 64) × (value < 3) × (448 ≤ length (now sets)) ⌝ }
     ensures { λ r. ⌜ r ≡ senders (now (sets .entry)) kind inst value ⌝ }
 {
@@ -23,7 +23,7 @@ pub fn set_of(sets: &[u32], kind: usize, inst: usize, value: usize) -> u32
 }
 
 // An instance's marks.
-pub fn marks_of(sets: &[u32], inst: usize) -> u32
+pub(crate) fn marks_of(sets: &[u32], inst: usize) -> u32
     requires { ⌜ (inst < 64) × (448 ≤ length (now sets)) ⌝ }
     ensures { λ r. ⌜ r ≡ marks (now (sets .entry)) inst ⌝ }
 {
@@ -31,7 +31,7 @@ pub fn marks_of(sets: &[u32], inst: usize) -> u32
 }
 
 // Sets mark j of an instance.
-pub fn put_mark(sets: &mut [u32], inst: usize, j: usize)
+pub(crate) fn put_mark(sets: &mut [u32], inst: usize, j: usize)
     requires { ⌜ (inst < 64) × (j < 32) × (448 ≤ length (now sets)) ⌝ }
     ensures { λ _. ⌜ now (sets .exit) ≡ mark (now (sets .entry)) inst j ⌝ }
 {

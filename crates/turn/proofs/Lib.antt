@@ -5,4 +5,5 @@ pub mod Within
 pub mod Choice
 pub mod Viewers
 pub mod Turns
+pub mod Packable
 pub mod Unique

@@ -157,10 +157,11 @@ marked : (words : List ℕ) (i j : ℕ) → marksAt i < length words → member 
 unfolding marks
 marked words i j l = rw (put-same words (marksAt i) j l) (added (getD words (marksAt i) 0) j)
 
-quiet-frame : {g k : Host} {f : Frame} → broadcast g f ≡ quiet k → ⊥
+-- no other answer has a frame
+pub quiet-frame : {g k : Host} {f : Frame} → broadcast g f ≡ quiet k → ⊥
 quiet-frame e = true≢false (cc)
 
-idle-frame : {g : Host} {f : Frame} → broadcast g f ≡ idle → ⊥
+pub idle-frame : {g : Host} {f : Frame} → broadcast g f ≡ idle → ⊥
 idle-frame e = true≢false (cc)
 
 -- the frame and the words are those of the move

@@ -10,7 +10,7 @@ use lib.ListN.{length}
 use borrow.Author.Tests.{le-ltb, leb-false, eqb-true, ne-eqb}
 use Rattle.answer.specs.Answer.{accepted}
 use Rattle.answer.proofs.Guards.{passes}
-use Rattle.frame.specs.Frame.{wordOf, badRound, badValue, unnamed, tooLarge, packGuards, packing}
+use Rattle.frame.specs.Frame.{wordOf, badRound, badValue, unnamed, packGuards, packing}
 use Rattle.frame.specs.declared.Frame.{Frame}
 use Rattle.quorum.specs.World.{thresholdsOf}
 use Rattle.quorum.specs.declared.World.{World}
@@ -20,7 +20,7 @@ use Rattle.host.specs.Record.{Valid}
 use Rattle.host.specs.declared.Host.{Host}
 use Rattle.host.proofs.Ranges.{ready-clear}
 use Rattle.turn.specs.Moves.{current, chosen}
-use Rattle.turn.specs.Applying.{Turn, broadcast, frameAt, answered}
+use Rattle.turn.specs.Applying.{broadcast, frameAt, answered}
 use Rattle.turn.specs.Turning.{turning}
 use Rattle.turn.specs.declared.choosing.Move.{Move}
 use Rattle.turn.proofs.Within.{chosen-in}

@@ -22,6 +22,11 @@ past ((k when b) ∷ gs) a = cond b (refused k) (past gs a)
 abbrev pub guarded : {A : Type 0} → List Guard → A → Answer A
 guarded gs a = past gs (accepted a)
 
+-- an answer with what it leaves beside what it gives
+abbrev pub beside : {A M : Type 0} → Answer A → M → Answer (A × M)
+beside (refused k) after = refused k
+beside (accepted a) after = accepted (a, after)
+
 -- what a call on lent memory answers and leaves there. "A refused call returns its number only", and "when it refuses changes no record, no
 -- table, no byte or word lent to it": it leaves what was there before
 abbrev pub lent : {A M : Type 0} → M → Answer (A × M) → Answer A × M

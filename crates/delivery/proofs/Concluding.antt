@@ -9,8 +9,7 @@ use Rattle.quorum.specs.Sets.{member}
 use Rattle.host.specs.Words.{senders}
 use Rattle.host.specs.declared.Place.{Place}
 use Rattle.delivery.specs.Recording.{frameInstance, heldFrom, recordOver, recording}
-use Rattle.delivery.specs.Delivery.{concluded}
-use Rattle.delivery.specs.Parts.{outcome}
+use Rattle.delivery.specs.Delivery.{outcome, concluded}
 use Rattle.delivery.specs.declared.recording.Recorded.{Recorded}
 
 held-go : (words same after : List ℕ) (f : Frame) (b : Bool) (p : Place) {v : ℕ}

@@ -6,7 +6,7 @@ use mathlib.Core.Bool.{Bool, not}
 use mathlib.Core.List.{List, [], _∷_, _++_}
 use lib.Dec.{leb}
 use lib.ListN.{length}
-use Rattle.answer.specs.Answer.{Answer, refused, accepted, Guard, _when_, past, guarded, lent}
+use Rattle.answer.specs.Answer.{Answer, refused, accepted, Guard, _when_, past, guarded, beside, lent}
 use Rattle.frame.specs.Frame.{unpacking, frameGuards}
 use Rattle.frame.specs.declared.Frame.{Frame}
 use Rattle.quorum.specs.declared.World.{World}
@@ -38,10 +38,13 @@ deliverGuards words h w f said = receiverGuards (length words) h w ++ senderGuar
 -- ---- Delivery
 
 -- 12: "another AUX of this sender is recorded in that instance"
+abbrev pub outcome : Recorded → Answer Unit
+outcome Recorded.New = accepted tt
+outcome Recorded.Repeat = accepted tt
+outcome (Recorded.Held v) = refused 12
+
 abbrev pub concluded : Recorded × List ℕ → Answer (Unit × List ℕ)
-concluded (Recorded.New, after) = accepted (tt, after)
-concluded (Recorded.Repeat, after) = accepted (tt, after)
-concluded (Recorded.Held v, after) = refused 12
+concluded p = beside (outcome (p .0)) (p .1)
 
 unfoldable pub delivering : List ℕ → Host → World → Frame → Bool → Answer Unit × List ℕ
 delivering words h w f said = lent words (past (deliverGuards words h w f said) (concluded (recording words f)))

@@ -3,17 +3,10 @@ use Prim.Native.Nat.{ℕ, _≤_, _<_}
 use Rattle.answer.specs.Answer.{Answer, refused, accepted}
 use Rattle.frame.specs.declared.Frame.{Frame}
 use Rattle.delivery.specs.declared.gates.Gate.{Gate}
-use Rattle.delivery.specs.declared.recording.Recorded.{Recorded}
 
 abbrev pub gateSays : Gate → Answer Unit
 gateSays Gate.Open = accepted tt
 gateSays (Gate.Refused k) = refused k
-
--- what a delivery answers when recording said this
-abbrev pub outcome : Recorded → Answer Unit
-outcome Recorded.New = accepted tt
-outcome Recorded.Repeat = accepted tt
-outcome (Recorded.Held v) = refused 12
 
 -- the number of a refusal, 0 where there is none
 abbrev pub numberOf : {A : Type 0} → Answer A → ℕ

@@ -7,8 +7,7 @@ mod gates;
 mod recording;
 
 ghost use mathlib.Core.Path.{_≡_};
-ghost use Rattle.delivery.specs.Delivery.{deliveredSays, Delivers, DeliversWord, Asks};
-ghost use Rattle.delivery.specs.Parts.{outcome};
+ghost use Rattle.delivery.specs.Delivery.{outcome, deliveredSays, Delivers, DeliversWord, Asks};
 use crate::gates::Gate;
 use crate::recording::Recorded;
 use frame::Frame;

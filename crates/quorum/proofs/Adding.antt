@@ -8,26 +8,27 @@ use lib.Bits.{bitOr, or-step, or-shr}
 use lib.Dec.{lit<, eqb}
 use lib.Pow.{shl-exact}
 use borrow.Author.Tests.{eqb-false}
+use Rattle.answer.proofs.Tests.{or-true, or-false}
 use Rattle.quorum.specs.Sets.{member, add, union}
 use Rattle.quorum.proofs.Members.{member-suc}
 
 digit : (x y a b : ℕ) → x ≡ y * 2 + max (a % 2) (b % 2) → x % 2 ≡ max (a % 2) (b % 2)
 digit x y a b e = omega arith
 
-either : (a b : ℕ) → a < 2 → b < 2 → eqb (max a b) 1 ≡ eqb a 1 || eqb b 1
-either zero zero p q = refl
-either zero (suc zero) p q = refl
-either zero (suc (suc b)) p q = absurd (omega arith)
-either (suc zero) zero p q = refl
-either (suc zero) (suc zero) p q = refl
-either (suc zero) (suc (suc b)) p q = absurd (omega arith)
-either (suc (suc a)) b p q = absurd (omega arith)
+digits : (a b : ℕ) → a < 2 → b < 2 → eqb (max a b) 1 ≡ eqb a 1 || eqb b 1
+digits zero zero p q = refl
+digits zero (suc zero) p q = refl
+digits zero (suc (suc b)) p q = absurd (omega arith)
+digits (suc zero) zero p q = refl
+digits (suc zero) (suc zero) p q = refl
+digits (suc zero) (suc (suc b)) p q = absurd (omega arith)
+digits (suc (suc a)) b p q = absurd (omega arith)
 
 -- in a union is who is in one of the two
 pub member-union : (a b j : ℕ) → member (union a b) j ≡ member a j || member b j
 unfolding member
 member-union a b j =
-    rw or-shr (rw (digit _ _ _ _ (or-step (a / 2 ^ j) (b / 2 ^ j))) (either (a / 2 ^ j % 2) (b / 2 ^ j % 2) (omega arith) (omega arith)))
+    rw or-shr (rw (digit _ _ _ _ (or-step (a / 2 ^ j) (b / 2 ^ j))) (digits (a / 2 ^ j % 2) (b / 2 ^ j % 2) (omega arith) (omega arith)))
 
 -- nobody is in the empty set
 pub member-none : (j : ℕ) → member 0 j ≡ false
@@ -53,14 +54,6 @@ only-other zero zero h = absurd (h refl)
 only-other zero (suc j) h = sym (member-suc 1 j) ∙ member-none j
 only-other (suc i) zero h = even i
 only-other (suc i) (suc j) h = sym (member-suc (2 ^ suc i) j) ∙ rw half-pow (only-other i j (λ e. h (ap suc e)))
-
-or-true : (b : Bool) → b || true ≡ true
-or-true true = refl
-or-true false = refl
-
-or-false : (b : Bool) → b || false ≡ b
-or-false true = refl
-or-false false = refl
 
 -- who was added is in, and of all others nothing changed
 pub added : (set j : ℕ) → member (add set j) j ≡ true

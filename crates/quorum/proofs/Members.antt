@@ -29,7 +29,8 @@ member-zero w =
     let e : w % 2 ≡ w / 1 % 2 = omega arith in
     bit (w % 2) (omega arith) ∙ ap (λ (x : ℕ). one (eqb x 1)) e
 
-ones-zero : ones 0 ≡ 0
+-- the empty set has none
+pub ones-zero : ones 0 ≡ 0
 unfolding ones
 ones-zero = refl
 

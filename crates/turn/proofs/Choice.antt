@@ -5,7 +5,7 @@ use mathlib.Core.Bool.{Bool, true, false, cond, _&&_, not, true≢false}
 use mathlib.Core.List.{List}
 use lib.Dec.{ltb, leb}
 use borrow.Author.Tests.{ltb-true, leb-true, leb-false, lt-leb, not-true, not-false}
-use Rattle.answer.proofs.Tests.{both}
+use Rattle.answer.proofs.Tests.{both, either}
 use Rattle.quorum.specs.Sets.{member, size}
 use Rattle.quorum.specs.World.{thresholdsOf}
 use Rattle.quorum.specs.declared.World.{World}
@@ -46,10 +46,6 @@ Gives words h need (Move.View view) =
     (begun words (current h) ≡ true) × (auxSent words (current h) ≡ true) × (need ≤ size (viewers words (current h)))
     × (view ≡ viewOf (heard words (current h) 0) (heard words (current h) 1) (heard words (current h) 2))
 
-either-way : (P : Move → Type 0) (b : Bool) (x y : Move) → (b ≡ true → P x) → (b ≡ false → P y) → P (cond b x y)
-either-way P true x y f g = f refl
-either-way P false x y f g = g refl
-
 module _ (words : List ℕ) (h : Host) (need : ℕ) where
   answering-gives : begun words (current h) ≡ true → auxSent words (current h) ≡ false
       → (q : Place) → auxChoice words (current h) ≡ q → Gives words h need (answering (current h) q)
@@ -61,20 +57,20 @@ module _ (words : List ℕ) (h : Host) (need : ℕ) where
   viewing-gives : begun words (current h) ≡ true → auxSent words (current h) ≡ true → Gives words h need (viewing words need (current h))
   unfolding viewing
   viewing-gives g a =
-      either-way (Gives words h need) (leb need (size (viewers words (current h)))) _ _
+      either (Gives words h need) (leb need (size (viewers words (current h)))) _ _
       (λ l. (g, a, leb-true _ _ l, refl)) (λ l. too-few g a (leb-false _ _ l))
 
   beginning-gives : begun words (current h) ≡ false → Gives words h need (beginning words (current h) (h .own))
   unfolding beginning
   beginning-gives g =
-      either-way (Gives words h need) (hasSent words VAL (current h) (h .own)) _ _ (λ e. (refl, g, e)) (λ e. (refl, refl, g, e))
+      either (Gives words h need) (hasSent words VAL (current h) (h .own)) _ _ (λ e. (refl, g, e)) (λ e. (refl, refl, g, e))
 
   proceeding-gives : Gives words h need (proceeding words h need (current h))
   unfolding proceeding
   proceeding-gives =
-      either-way (Gives words h need) (finished h) _ _ (λ f. finished-now f)
-      (λ f. either-way (Gives words h need) (not (begun words (current h))) _ _ (λ g. beginning-gives (not-true (begun words (current h)) g))
-      (λ g. either-way (Gives words h need) (not (auxSent words (current h))) _ _
+      either (Gives words h need) (finished h) _ _ (λ f. finished-now f)
+      (λ f. either (Gives words h need) (not (begun words (current h))) _ _ (λ g. beginning-gives (not-true (begun words (current h)) g))
+      (λ g. either (Gives words h need) (not (auxSent words (current h))) _ _
       (λ a. answering-gives (not-false (begun words (current h)) g) (not-true (auxSent words (current h)) a) (auxChoice words (current h)) refl)
       (λ a. viewing-gives (not-false (begun words (current h)) g) (not-false (auxSent words (current h)) a))))
 

@@ -7,16 +7,13 @@ use native.Mathlib.Omega.{arith}
 use lib.Count.{ones}
 use lib.Dec.{ltb, leb, eqb}
 use borrow.Author.Tests.{le-ltb, lt-ltb, lt-leb, leb-true, leb-false, eqb-false}
+use Rattle.quorum.proofs.Members.{ones-zero}
 use Rattle.quorum.specs.Sets.{member, size}
 use Rattle.host.specs.Words.{values, VAL, senders, marks}
 use Rattle.host.specs.First.{first}
 use Rattle.host.specs.declared.Host.{Host}
 use Rattle.turn.specs.Moves.{witnesses, due}
 use Rattle.host.specs.declared.Place.{Place}
-
-ones-zero : ones 0 ≡ 0
-unfolding ones
-ones-zero = refl
 
 outside : (a b : ℕ) (g : Bool) → leb b a ≡ g → ltb a b ≡ not g
 outside a b true e = le-ltb a b (leb-true b a e)

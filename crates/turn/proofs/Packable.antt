@@ -10,6 +10,7 @@ use lib.ListN.{length}
 use borrow.Author.Tests.{le-ltb, leb-false, eqb-true, ne-eqb}
 use Rattle.answer.specs.Answer.{accepted}
 use Rattle.answer.proofs.Guards.{passes}
+use Rattle.answer.proofs.Tests.{and-false}
 use Rattle.frame.specs.Frame.{wordOf, badRound, badValue, unnamed, packGuards, packing}
 use Rattle.frame.specs.declared.Frame.{Frame}
 use Rattle.quorum.specs.World.{thresholdsOf}
@@ -32,10 +33,6 @@ not-neither v s true e l =
     let z = eqb-true s 0 e in
     rw (ne-eqb v 2 (λ q. omega arith)) refl
 not-neither v s false e l = and-false (eqb v 2)
-  where
-    and-false : (a : Bool) → a && false ≡ false
-    and-false true = refl
-    and-false false = refl
 
 -- a frame of an instance, with a value of the instance and a sender that the layout has bits for
 packs : (kind i v me : ℕ) → kind < 2 → i < 64 → v < values i → me < 32 → packing (frameAt kind i v me) ≡ accepted (wordOf (frameAt kind i v me))

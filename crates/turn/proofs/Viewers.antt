@@ -6,6 +6,7 @@ use mathlib.Core.List.{List}
 use native.Mathlib.Omega.{arith}
 use lib.Dec.{ltb, eqb}
 use borrow.Author.Tests.{ltb-true, lt-ltb, eqb-true, eqb-false, not-true}
+use Rattle.answer.proofs.Tests.{or-true}
 use Rattle.quorum.specs.Sets.{member, union}
 use Rattle.quorum.proofs.Adding.{member-union, member-none, some-member}
 use Rattle.host.specs.Words.{values, AUX, senders, admitted}
@@ -50,10 +51,6 @@ viewer-heard words i j e =
     let (v, m) = one-of (λ v. member (heard words i v) j) _ _ _ refl refl refl (sym (viewers-are words i j) ∙ e) in
     let (l, a, s) = heard-means words i v j m in
     (v, l, a, s)
-
-or-true : (b : Bool) → b || true ≡ true
-or-true true = refl
-or-true false = refl
 
 any-of : (f : ℕ → Bool) (v : ℕ) → v < 3 → f v ≡ true → f 0 || f 1 || f 2 ≡ true
 any-of f zero l e = rw e

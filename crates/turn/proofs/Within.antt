@@ -1,10 +1,11 @@
 -- A chosen move speaks of one of the 64 instances and one of the three values. Assumes nothing.
 use Prim.Native.Nat.{ℕ, _<_}
 use mathlib.Core.Path.{_≡_, refl}
-use mathlib.Core.Bool.{Bool, true, false, cond, not}
+use mathlib.Core.Bool.{not}
 use mathlib.Core.List.{List}
 use native.Mathlib.Omega.{arith}
 use lib.Dec.{leb}
+use Rattle.answer.proofs.Tests.{either}
 use Rattle.quorum.specs.Sets.{size}
 use Rattle.quorum.specs.declared.Thresholds.{Thresholds}
 use Rattle.host.specs.Words.{values, VAL, hasSent, admitted, begun}
@@ -19,10 +20,6 @@ use Rattle.turn.specs.declared.search.Found.{Found}
 use Rattle.turn.specs.declared.choosing.Move.{Move}
 use Rattle.turn.proofs.Searches.{search-at}
 
-one-of : (b : Bool) (x y : Move) → InRange x → InRange y → InRange (cond b x y)
-one-of true x y p q = p
-one-of false x y p q = q
-
 answer-in : (i : ℕ) (q : Place) → i < 64 → ((v : ℕ) → q ≡ Place.At v → v < 3) → InRange (answering i q)
 answer-in i (Place.At v) l f = (l, f v refl)
 answer-in i Place.Nowhere l f = tt
@@ -33,10 +30,10 @@ choice-in words i v e = let (l, _, _) = first-at (admitted words i) (values i) v
 proceed-in : (words : List ℕ) (h : Host) (need i : ℕ) → Valid h → i < 64 → InRange (proceeding words h need i)
 unfolding proceeding beginning viewing
 proceed-in words h need i d l =
-    one-of (finished h) _ _ tt
-    (one-of (not (begun words i)) _ _ (one-of (hasSent words VAL i (h .own)) _ _ l (l, d .own))
-    (one-of (not (auxSent words i)) _ _ (answer-in i (auxChoice words i) l (choice-in words i))
-    (one-of (leb need (size (viewers words i))) _ Move.Idle tt tt)))
+    either InRange (finished h) _ _ (λ _. tt)
+    (λ _. either InRange (not (begun words i)) _ _ (λ _. either InRange (hasSent words VAL i (h .own)) _ _ (λ _. l) (λ _. (l, d .own)))
+    (λ _. either InRange (not (auxSent words i)) _ _ (λ _. answer-in i (auxChoice words i) l (choice-in words i))
+    (λ _. either InRange (leb need (size (viewers words i))) _ Move.Idle (λ _. tt) (λ _. tt))))
 
 next-in : (q : Found) (move : ℕ → ℕ → Move) (m : Move) → ((i v : ℕ) → q ≡ Found.At i v → InRange (move i v)) → InRange m → InRange (orNext q move m)
 next-in (Found.At i v) move m f g = f i v refl

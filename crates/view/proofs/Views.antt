@@ -5,7 +5,7 @@ use mathlib.Core.Bool.{Bool, true, false, cond, _&&_}
 use native.Mathlib.Omega.{arith}
 use lib.Dec.{leb, eqb}
 use borrow.Author.Tests.{leb-false, eqb-true, eqb-false, eq-eqb, ne-eqb}
-use Rattle.answer.proofs.Tests.{both}
+use Rattle.answer.proofs.Tests.{both, either}
 use Rattle.quorum.specs.Sets.{member}
 use Rattle.host.specs.Record.{coin, moved, stood, Valid}
 use Rattle.host.proofs.Ranges.{moved-valid, stood-valid}
@@ -74,15 +74,11 @@ by-view P h view =
     (afterRound h (roundEstimate view (h .est)) (decided view (h .decision)))
     (member view 0) (member view 1) (eqb (h .stage) 0) (member view 0 && member view 1) (eqb (h .phase) 1) refl refl refl
 
-cond-both : {A : Type 0} (P : A → Type 0) (b : Bool) (x y : A) → P x → P y → P (cond b x y)
-cond-both P true x y p q = p
-cond-both P false x y p q = q
-
 -- the two cases of a round's end
 by-round : (P : Host → Type 0) (h : Host) (est decision : ℕ) → P (stood (moved h (h .round) (h .phase) (h .stage) (h .own) est decision) 1)
     → P (moved h (h .round + 1) 1 0 est est decision) → P (afterRound h est decision)
 unfolding afterRound
-by-round P h est decision = cond-both P (leb 16 (h .round)) _ _
+by-round P h est decision p q = either P (leb 16 (h .round)) _ _ (λ _. p) (λ _. q)
 
 -- ---- Decisions
 
@@ -222,11 +218,12 @@ phase-low view c l = by-only (λ v o. cond (eqb o 2) c o < 2) view (omega arith)
 
 round-low : (view est : ℕ) → est < 2 → roundEstimate view est < 2
 unfolding roundEstimate
-round-low view est l = cond-both (λ x. x < 2) (member view 0) 0 _ (omega arith) (cond-both (λ x. x < 2) (member view 1) 1 est (omega arith) l)
+round-low view est l =
+    either (λ x. x < 2) (member view 0) 0 _ (λ _. omega arith) (λ _. either (λ x. x < 2) (member view 1) 1 est (λ _. omega arith) (λ _. l))
 
 decided-low : (view d : ℕ) → d < 3 → decided view d < 3
 unfolding decided
-decided-low view d l = cond-both (λ x. x < 3) (eqb d 2) (onlyOf view) d (only-low view) l
+decided-low view d l = either (λ x. x < 3) (eqb d 2) (onlyOf view) d (λ _. only-low view) (λ _. l)
 
 next-valid : (h : Host) (est decision : ℕ) (b : Bool) → leb 16 (h .round) ≡ b → Valid h → est < 2 → decision < 3 → (h .stage ≡ 0 → ⊥)
     → Valid (cond b (stood (moved h (h .round) (h .phase) (h .stage) (h .own) est decision) 1) (moved h (h .round + 1) 1 0 est est decision))

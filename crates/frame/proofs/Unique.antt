@@ -30,8 +30,12 @@ unfolding sound
 sound-says Sound.Yes = refl
 sound-says (Sound.Refused k) = refl
 
+-- one value of the enum for each answer
+pub one-sound : (r : Answer Unit) (a b : Sound) → soundSays a ≡ r → soundSays b ≡ r → a ≡ b
+one-sound = once soundSays sound sound-says
+
 pub judges-once : (f : Frame) (a b : Sound) → Judges f a → Judges f b → a ≡ b
-judges-once f = once soundSays sound sound-says (judging f)
+judges-once f = one-sound (judging f)
 
 packed : Answer ℕ → Packed
 packed (accepted w) = Packed.Word w

@@ -1,7 +1,7 @@
 -- What every call on a host's record and words asks first, and the promises of this crate's calls. Document 01, "Refusal numbers".
 use Prim.Native.Nat.{ℕ}
 use mathlib.Core.Path.{_≡_}
-use mathlib.Core.Bool.{_||_}
+use mathlib.Core.Bool.{Bool, _||_}
 use mathlib.Core.List.{List, _∷_}
 use lib.Dec.{ltb}
 use Rattle.answer.specs.Answer.{Answer, Guard, _when_, guarded}
@@ -19,6 +19,10 @@ readyGuards words h w = (13 when ltb words 448 || badHost h) ∷ worldGuards w
 
 unfoldable pub readying : ℕ → Host → World → Answer Thresholds
 readying words h w = guarded (readyGuards words h w) (thresholdsOf w)
+
+-- the promise of `out_of_range`
+abbrev pub Strays : Host → Bool → Type 0
+Strays host answer = answer ≡ badHost host
 
 -- the promise of `ready`
 abbrev pub Readies : ℕ → Host → World → Checked → Type 0

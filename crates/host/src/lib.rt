@@ -3,11 +3,9 @@
 // the crates `delivery`, `turn` and `view`.
 //
 // Each call takes every value of its parameters' types: none asks anything of its caller.
-mod record;
-
 ghost use mathlib.Core.Path.{_≡_};
 ghost use Prim.Native.Nat.{_-_};
-ghost use Rattle.host.specs.Calls.{Readies, Numbers};
+ghost use Rattle.host.specs.Calls.{Strays, Readies, Numbers};
 use quorum::Checked;
 use quorum::World;
 
@@ -33,11 +31,20 @@ pub enum Place {
     Nowhere,
 }
 
+// Whether a record has a field outside its range, or in stage 0 an own value other than the estimate.
+pub fn out_of_range(h: Host) -> bool
+    ensures { λ r. ⌜ Strays h r ⌝ }
+{
+    ((h.round == 0) | (16 < h.round) | (h.phase == 0) | (2 < h.phase) | (1 < h.stage))
+        | ((2 < h.own) | (1 < h.est) | (2 < h.decision) | ((h.stage == 0) & (h.own != h.est)))
+        | ((224 < h.sent) | (3 < h.standing))
+}
+
 // The thresholds for a call on so many lent words, this record and this world: refusals 13, 2, 3.
 pub fn ready(words: usize, host: Host, world: World) -> Checked
     ensures { λ r. ⌜ Readies words host world r ⌝ }
 {
-    let bad = record::out_of_range(host);
+    let bad = out_of_range(host);
     if (words < 448) | bad {
         return Checked::Refused(13);
     }

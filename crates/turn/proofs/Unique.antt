@@ -23,6 +23,11 @@ turned-says (Turned.Quiet h) = refl
 turned-says (Turned.Broadcast h f) = refl
 turned-says (Turned.Refused k) = refl
 
+-- one value of the enum for each answer, and one content with it
+pub one-turned : (r : Answer Turn × List ℕ) (a b : Turned) (x y : List ℕ) → _≡_ {A = Answer Turn × List ℕ} (turnedSays a, x) r
+    → _≡_ {A = Answer Turn × List ℕ} (turnedSays b, y) r → (a ≡ b) × (x ≡ y)
+one-turned = once-lent turnedSays turned turned-says
+
 pub turns-once : (words : List ℕ) (h : Host) (w : World) (me : ℕ) (a b : Turned) (x y : List ℕ)
     → Turns words h w me a x → Turns words h w me b y → (a ≡ b) × (x ≡ y)
-turns-once words h w me = once-lent turnedSays turned turned-says (turning words h w me)
+turns-once words h w me = one-turned (turning words h w me)

@@ -1,0 +1,4 @@
+pub mod Starting
+pub mod Playing
+pub mod Calls
+pub mod Parts

@@ -15,8 +15,8 @@ pub struct Case {
     pub bytes: Vec<u8>,
 }
 
-/// The case of that number. Every 500th is a sweep or a long run, by its place
-/// in the 500; the others take their kind from their place in a dozen.
+/// The case of that number. Four of every 500 are sweeps and long runs; the others
+/// take their kind from their place in a dozen.
 pub fn make(number: u64) -> Case {
     let rng = &mut Rng::new(number);
     let (kind, bytes) = match (number % 500, number % 12) {
@@ -38,7 +38,8 @@ pub fn make(number: u64) -> Case {
 /// Small tables mostly, up to 32 hosts sometimes; t mostly as large as it may be.
 fn some_sizes(rng: &mut Rng) -> Sizes {
     let n = match rng.below(10) {
-        0 => rng.between(2, 32),
+        0 if rng.chance(30) => 32,
+        0 => rng.between(2, 31),
         1 | 2 => rng.between(8, 13),
         3 | 4 => 7,
         5 => rng.between(5, 6),
@@ -218,9 +219,9 @@ fn damaged(rng: &mut Rng) -> Vec<u8> {
     damage::damaged(rng, world)
 }
 
-/// Goes through n minus 1 and t; every fourth of these has sizes that are allowed.
+/// Goes through all n, n 1 a little more often, each with allowed and other t.
 fn sized(rng: &mut Rng, count: u64) -> Vec<u8> {
-    let n_less_one = (count % 32) as u8;
+    let n_less_one = if rng.chance(5) { 0 } else { (count % 32) as u8 };
     let t = if rng.chance(50) {
         rng.small(16)
     } else {

@@ -94,7 +94,12 @@ fn keep(
 }
 
 /// Compares case by case and stops at the first that differs; true if none did.
-pub fn compare(numbers: Range<u64>, dir: &Path, program: &[String]) -> io::Result<bool> {
+pub fn compare(
+    output: &mut impl Write,
+    numbers: Range<u64>,
+    dir: &Path,
+    program: &[String],
+) -> io::Result<bool> {
     let mut coverage = Coverage::default();
     for number in numbers.clone() {
         let case = cases::make(number);
@@ -103,22 +108,24 @@ pub fn compare(numbers: Range<u64>, dir: &Path, program: &[String]) -> io::Resul
         let answer = ask(program, &case.bytes);
         if let Some(difference) = difference(&expected, &answer) {
             let path = keep(dir, number, &case.bytes, &expected, &answer)?;
-            println!(
+            writeln!(
+                output,
                 "case {number} ({}) differs, kept in {}",
                 case.kind,
                 path.display()
-            );
-            println!("{difference}");
+            )?;
+            writeln!(output, "{difference}")?;
             return Ok(false);
         }
     }
-    println!("compared {} cases, all equal", numbers.end - numbers.start);
-    println!("{coverage}");
+    let count = numbers.end - numbers.start;
+    writeln!(output, "compared {count} cases, all equal")?;
+    writeln!(output, "{coverage}")?;
     Ok(true)
 }
 
 /// Counts the cases that tell a wrong program from this one; true if any does.
-pub fn catch(numbers: Range<u64>, program: &[String]) -> bool {
+pub fn catch(output: &mut impl Write, numbers: Range<u64>, program: &[String]) -> io::Result<bool> {
     let mut first = None;
     let mut caught = 0;
     for number in numbers.clone() {
@@ -131,18 +138,21 @@ pub fn catch(numbers: Range<u64>, program: &[String]) -> bool {
     }
     let count = numbers.end - numbers.start;
     match first {
-        None => println!("none of {count} cases differs"),
-        Some((number, kind)) => {
-            println!("{caught} of {count} cases differ, the first is case {number} ({kind})")
-        }
+        None => writeln!(output, "none of {count} cases differs")?,
+        Some((number, kind)) => writeln!(
+            output,
+            "{caught} of {count} cases differ, the first is case {number} ({kind})"
+        )?,
     }
-    caught > 0
+    Ok(caught > 0)
 }
 
 /// Compares the stored run files of a folder; true if there are some and all agree.
-pub fn files(dir: &Path, program: &[String]) -> io::Result<bool> {
+pub fn files(output: &mut impl Write, dir: &Path, program: &[String]) -> io::Result<bool> {
     let mut paths = Vec::new();
-    for entry in fs::read_dir(dir)? {
+    let entries = fs::read_dir(dir)
+        .map_err(|error| io::Error::new(error.kind(), format!("{}: {error}", dir.display())))?;
+    for entry in entries {
         paths.push(entry?.path());
     }
     paths.retain(|path| path.extension().is_some_and(|extension| extension == "run"));
@@ -150,14 +160,18 @@ pub fn files(dir: &Path, program: &[String]) -> io::Result<bool> {
     let mut failed = 0;
     for path in &paths {
         if let Some(difference) = check_file(path, program)? {
-            println!("{}: {difference}", path.display());
+            writeln!(output, "{}: {difference}", path.display())?;
             failed += 1;
         }
     }
     if paths.is_empty() {
-        println!("no run file in {}", dir.display());
+        writeln!(output, "no run file in {}", dir.display())?;
     } else {
-        println!("compared {} run files, {failed} differ", paths.len());
+        writeln!(
+            output,
+            "compared {} run files, {failed} differ",
+            paths.len()
+        )?;
     }
     Ok(!paths.is_empty() && failed == 0)
 }

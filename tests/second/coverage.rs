@@ -124,7 +124,7 @@ impl fmt::Display for Coverage {
         )?;
         write!(
             f,
-            "begins after an echo {}, echoes by finished hosts {}, admits by finished hosts {}, highest sent count {}",
+            "begins after an echo {}, finished hosts' echoes {} and admits {}, highest sent count {}",
             self.silent_begins, self.echoes_by_finished, self.admits_by_finished, self.highest_sent
         )
     }

@@ -21,21 +21,22 @@ pub fn damaged(rng: &mut Rng, mut world: World) -> Vec<u8> {
     );
     let records_end = 2 + 3 * usize::from(world.sizes().n);
     let mut bytes = world.bytes.clone();
-    match rng.below(8) {
-        0 => cut(rng, &mut bytes, records_end + 1),
-        1 => cut_anywhere(rng, &mut bytes),
+    let end = bytes.len();
+    match rng.below(9) {
+        0 => cut(rng, &mut bytes, 0, records_end),
+        1 => cut(rng, &mut bytes, records_end, end),
         2 => flip(rng, &mut bytes, 0, 2),
-        3 => spoil_record(rng, &mut bytes, &world),
-        4 => {
-            spoil_record(rng, &mut bytes, &world);
-            cut(rng, &mut bytes, records_end);
-        }
+        3 | 4 => spoil_record(rng, &mut bytes, &world),
         5 => {
-            flip(rng, &mut bytes, 0, 2);
-            flip(rng, &mut bytes, 0, 2);
-            cut(rng, &mut bytes, 8);
+            spoil_record(rng, &mut bytes, &world);
+            cut(rng, &mut bytes, 2, records_end);
         }
-        6 => flip_many(rng, &mut bytes, records_end),
+        6 => {
+            flip(rng, &mut bytes, 0, 2);
+            flip(rng, &mut bytes, 0, 2);
+            cut(rng, &mut bytes, 0, 8);
+        }
+        7 => flip_many(rng, &mut bytes, records_end),
         _ => {
             bytes.truncate(rng.index(&[0; 3]));
             bytes.extend((0..rng.below(200)).map(|_| rng.byte()));
@@ -67,19 +68,15 @@ pub fn sized(rng: &mut Rng, n_less_one: u8, t: u8, world: World) -> Vec<u8> {
     let mut bytes = world.bytes;
     bytes[..2].copy_from_slice(&header_bytes(n_less_one, t, spare));
     if rng.chance(10) {
-        cut_anywhere(rng, &mut bytes);
+        let end = bytes.len();
+        cut(rng, &mut bytes, 0, end);
     }
     bytes
 }
 
-/// Keeps fewer bytes than the end given.
-fn cut(rng: &mut Rng, bytes: &mut Vec<u8>, end: usize) {
-    bytes.truncate(rng.below(end as u64) as usize);
-}
-
-fn cut_anywhere(rng: &mut Rng, bytes: &mut Vec<u8>) {
-    let end = bytes.len();
-    cut(rng, bytes, end);
+/// Ends the file somewhere between two places, the second left out.
+fn cut(rng: &mut Rng, bytes: &mut Vec<u8>, from: usize, to: usize) {
+    bytes.truncate(from + rng.below((to - from) as u64) as usize);
 }
 
 /// Turns one bit over, between two places.
@@ -89,14 +86,20 @@ fn flip(rng: &mut Rng, bytes: &mut [u8], from: usize, to: usize) {
     bytes[place] ^= 1 << rng.below(8);
 }
 
-/// Sets a bit in a liar's record, or a spare bit in an honest one.
+/// Sets a spare bit in a record, or the proposal or a coin bit in a liar's.
 fn spoil_record(rng: &mut Rng, bytes: &mut [u8], world: &World) {
-    let host = rng.small(world.sizes().n);
-    let place = 2 + 3 * usize::from(host);
-    if world.liars().contains(&host) && rng.chance(70) {
-        bytes[place + rng.index(&[0; 3])] |= 1 << rng.below(7);
+    let liars = world.liars();
+    let of_liar = !liars.is_empty() && rng.chance(70);
+    let host = if of_liar {
+        rng.pick(&liars)
     } else {
-        bytes[place] |= 1 << rng.below(6);
+        rng.small(world.sizes().n)
+    };
+    let place = 2 + 3 * usize::from(host);
+    match rng.below(3) {
+        0 if of_liar => bytes[place] += 64,
+        1 if of_liar => bytes[place + rng.between(1, 2) as usize] = 1 << rng.below(8),
+        _ => bytes[place] += 1 << rng.below(6),
     }
 }
 

@@ -12,6 +12,7 @@ mod file;
 mod frame;
 mod host;
 mod noise;
+mod pile;
 mod promises;
 mod refusal;
 mod replay;
@@ -82,16 +83,21 @@ fn obey(arguments: &[String]) -> Result<(), Failure> {
     match words[..] {
         ["replay", file] => replay_file(file),
         ["make", case] => print_bytes(&cases::make(number(case)?).bytes),
-        ["compare", first, count, dir, _, ..] => agree(compare::compare(
-            range(first, count)?,
-            Path::new(dir),
-            &arguments[4..],
-        )?),
-        ["files", dir, _, ..] => agree(compare::files(Path::new(dir), &arguments[2..])?),
-        ["catch", first, count, _, ..] => {
-            agree(compare::catch(range(first, count)?, &arguments[3..]))
+        ["compare", first, count, dir, _, ..] => {
+            let (numbers, program) = (range(first, count)?, &arguments[4..]);
+            agreeing(|output| compare::compare(output, numbers, Path::new(dir), program))
         }
-        ["promises", first, count] => agree(promises::check(range(first, count)?)),
+        ["files", dir, _, ..] => {
+            agreeing(|output| compare::files(output, Path::new(dir), &arguments[2..]))
+        }
+        ["catch", first, count, _, ..] => {
+            let (numbers, program) = (range(first, count)?, &arguments[3..]);
+            agreeing(|output| compare::catch(output, numbers, program))
+        }
+        ["promises", first, count] => {
+            let numbers = range(first, count)?;
+            agreeing(|output| promises::check(output, numbers))
+        }
         ["example", name] => match examples::make(name) {
             Some(bytes) => print_bytes(&bytes),
             None => Err(Failure::Usage(format!("no example is called {name}"))),
@@ -129,14 +135,6 @@ fn range(first: &str, count: &str) -> Result<Range<u64>, Failure> {
     }
 }
 
-fn agree(agreed: bool) -> Result<(), Failure> {
-    if agreed {
-        Ok(())
-    } else {
-        Err(Failure::Disagreement)
-    }
-}
-
 fn replay_file(file: &str) -> Result<(), Failure> {
     let mut coverage = coverage::Coverage::default();
     if file == "-" {
@@ -152,10 +150,21 @@ fn print_bytes(bytes: &[u8]) -> Result<(), Failure> {
     printing(|output| output.write_all(bytes))
 }
 
-fn printing(
-    print: impl FnOnce(&mut BufWriter<io::StdoutLock<'static>>) -> io::Result<()>,
-) -> Result<(), Failure> {
+type Output = BufWriter<io::StdoutLock<'static>>;
+
+/// Lets something print; what it answers is handed on.
+fn printing<T>(print: impl FnOnce(&mut Output) -> io::Result<T>) -> Result<T, Failure> {
     let mut output = BufWriter::new(io::stdout().lock());
-    print(&mut output)?;
-    Ok(output.flush()?)
+    let answer = print(&mut output)?;
+    output.flush()?;
+    Ok(answer)
+}
+
+/// Lets a comparison print; it fails unless everything agreed.
+fn agreeing(compare: impl FnOnce(&mut Output) -> io::Result<bool>) -> Result<(), Failure> {
+    if printing(compare)? {
+        Ok(())
+    } else {
+        Err(Failure::Disagreement)
+    }
 }

@@ -1,6 +1,7 @@
 //! What the rules promise of every run with at most t liars, checked on the cases.
 
 use std::collections::{BTreeMap, BTreeSet};
+use std::io::{self, Write};
 use std::ops::Range;
 
 use crate::cases;
@@ -10,7 +11,7 @@ use crate::replay::read_start;
 use crate::table::{Done, Table};
 
 /// Checks the cases that have at most t liars; true if some had and all kept the promises.
-pub fn check(numbers: Range<u64>) -> bool {
+pub fn check(output: &mut impl Write, numbers: Range<u64>) -> io::Result<bool> {
     let (mut checked, mut failed) = (0, 0);
     for number in numbers {
         match check_case(&cases::make(number).bytes) {
@@ -19,13 +20,16 @@ pub fn check(numbers: Range<u64>) -> bool {
                 checked += 1;
                 failed += u64::from(!broken_promises.is_empty());
                 for text in broken_promises {
-                    println!("case {number}: {text}");
+                    writeln!(output, "case {number}: {text}")?;
                 }
             }
         }
     }
-    println!("checked {checked} cases with at most t liars, {failed} broke a promise");
-    checked > 0 && failed == 0
+    writeln!(
+        output,
+        "checked {checked} cases with at most t liars, {failed} broke a promise"
+    )?;
+    Ok(checked > 0 && failed == 0)
 }
 
 /// The promises a case breaks, or none if nothing is promised of it.

@@ -7,6 +7,7 @@ use std::collections::{BTreeMap, BTreeSet};
 use crate::frame::{Frame, Instance, Kind, Value, VALUES};
 use crate::host::{Move, Standing};
 use crate::noise;
+use crate::pile::pile;
 use crate::rng::Rng;
 use crate::world::World;
 
@@ -72,6 +73,9 @@ impl Director<'_> {
                     noise::stir(self.world, self.rng);
                 }
                 self.attend(host);
+            }
+            if self.rng.chance(2) {
+                pile(self.world, self.rng);
             }
             if self.world.changes == before && !self.unstick() {
                 break;
@@ -275,20 +279,8 @@ impl Director<'_> {
         }
         let seen: BTreeSet<Value> = held.aux.values().copied().collect();
         let admitted = held.admitted.clone();
-        let lying = self.world.record(sender).standing == Standing::Lying;
-        let value = if lying {
-            let missing: Vec<Value> = view.difference(&seen).copied().collect();
-            let wanted: Vec<Value> = view.iter().copied().collect();
-            let list = if missing.is_empty() {
-                &wanted
-            } else {
-                &missing
-            };
-            if self.rng.chance(10) {
-                self.rng.pick(at.values())
-            } else {
-                self.rng.pick(list)
-            }
+        let value = if self.world.record(sender).standing == Standing::Lying {
+            self.lying_aux(at, view, &seen)
         } else {
             match self.world.held(sender, at).and_then(|held| held.aux_sent) {
                 Some(value) => value,
@@ -299,6 +291,19 @@ impl Director<'_> {
         if view.contains(&value) || useless {
             self.world.deliver_aux(host, sender, at, value);
             self.after_delivery(host);
+        }
+    }
+
+    /// The AUX of a liar: mostly what the view still lacks, or else any of the view.
+    fn lying_aux(&mut self, at: Instance, view: &BTreeSet<Value>, seen: &BTreeSet<Value>) -> Value {
+        let mut wanted: Vec<Value> = view.difference(seen).copied().collect();
+        if wanted.is_empty() {
+            wanted.extend(view);
+        }
+        if self.rng.chance(10) {
+            self.rng.pick(at.values())
+        } else {
+            self.rng.pick(&wanted)
         }
     }
 

@@ -37,5 +37,5 @@ pub plays-once : (run : Run) (table bytes : List ℕ) (a b : Played) (x y : List
     → (a ≡ b) × (x ≡ y)
 plays-once run table bytes a b x y p q =
     let (stops, left) =
-        once-lent stopSays stop-of stop-says (playing run table bytes) (a .stop) (b .stop) (a .run, a .taken, x) (b .run, b .taken, y) p q in
+    once-lent stopSays stop-of stop-says (playing run table bytes) (a .stop) (b .stop) (a .run, a .taken, x) (b .run, b .taken, y) p q in
     (ap₂ (λ (l : Run × ℕ × List ℕ) (s : Stop). record { run = l .0; taken = l .1; stop = s }) left stops, ap (λ (l : Run × ℕ × List ℕ). l .2) left)

@@ -1,3 +1,4 @@
 pub mod Lending
 pub mod Passing
+pub mod Steps
 pub mod Unique

@@ -28,9 +28,15 @@ pub(crate) fn deliver(
     ensures { λ r. ⌜ _≡_ {A = Answer Turn × List ℕ} (turnedSays r, now (table .exit)) (deliveringAt (now (table .entry)) host sender world event) ⌝ }
 {
     let said = said(table, sender, world, event.word);
-    let start = 448 * event.host as usize;
-    let end = start + 448;
-    let delivered = delivery::deliver_word(&mut table[start..end], host, world, event.word, said);
+    let first = 448 * event.host as usize;
+    let behind = first + 448;
+    let delivered = delivery::deliver_word(
+        &mut table[first..behind],
+        host,
+        world,
+        event.word,
+        said,
+    );
     pass(delivered)
 }
 
@@ -53,9 +59,9 @@ fn said(table: &[u32], sender: Host, world: World, word: u16) -> bool
     let Unpacked::Frame(frame) = unpacked else {
         return false;
     };
-    let start = 448 * frame.sender as usize;
-    let end = start + 448;
-    agree(delivery::may_send(&table[start..end], sender, world, frame))
+    let from = 448 * frame.sender as usize;
+    let to = from + 448;
+    agree(delivery::may_send(&table[from..to], sender, world, frame))
 }
 
 fn agree(said: Said) -> bool

@@ -65,8 +65,8 @@ returns-3 c =
     let e = s .seen2 .given .0 .0 in
     let seen : eventAt bytes (l .at) ≡ something (accepted e) = sym (s .before .before .event-at .ensures) ∙ ap seenSays (s .seen2 .given .1) in
     let stepped : _≡_ {A = Answer Turn × List ℕ} (turnedSays (k .step .result), k .step .last .0)
-        (stepping (l .table) (hostAt (l .going) (e .host)) (hostAt (l .going) (senderIn e)) (l .going .world) e) =
-        rw (← k .before .before .before .before .before .sender-of .ensures .0) (k .step .ensures) in
+    (stepping (l .table) (hostAt (l .going) (e .host)) (hostAt (l .going) (senderIn e)) (l .going .world) e) =
+    rw (← k .before .before .before .before .before .sender-of .ensures .0) (k .step .ensures) in
     walk-refused (l .going) (l .table) bytes (l .at) (l .inv .2) (s .before .before .before .loop-test .taken) seen stepped (c .stop2 .result)
     (unsettled (hostAt (l .going) (e .host)) (turnedSays (k .step .result)) (ap settledSays (sym (c .before .before .settled .given .1)) ∙ c .before .before .before .before .settle .ensures)) (c .stop2 .ensures)
 
@@ -94,8 +94,8 @@ loop-again c =
     let e = s .seen2 .given .0 .0 in
     let seen : eventAt bytes (l .at) ≡ something (accepted e) = sym (s .before .before .event-at .ensures) ∙ ap seenSays (s .seen2 .given .1) in
     let stepped : _≡_ {A = Answer Turn × List ℕ} (turnedSays (k .step .result), k .step .last .0)
-        (stepping (l .table) (hostAt (l .going) (e .host)) (hostAt (l .going) (senderIn e)) (l .going .world) e) =
-        rw (← k .before .before .before .before .before .sender-of .ensures .0) (k .step .ensures) in
+    (stepping (l .table) (hostAt (l .going) (e .host)) (hostAt (l .going) (senderIn e)) (l .going .world) e) =
+    rw (← k .before .before .before .before .before .sender-of .ensures .0) (k .step .ensures) in
     let (_, _, _, _, n) = sees-event bytes (l .at) seen in
     let settled : accepted (c .before .settled2 .given .0 .0) ≡ recordBy (hostAt (l .going) (e .host)) (turnedSays (k .step .result)) = ap settledSays (sym (c .before .settled2 .given .1)) ∙ c .before .before .before .settle .ensures in
     (within bytes (l .at) n, k .step .kept .0 ∙ l .inv .1, walk-goes (l .going) (l .table) bytes (l .at) (l .inv .2) (s .before .before .before .loop-test .taken) seen stepped settled)

@@ -4,8 +4,8 @@
 // No more of a file is held than a buffer of whole events, which is refilled.
 mod lines;
 
-ghost use Prim.Native.Nat.{_≤_, _<_};
-ghost use lib.ListN.{length};
+ghost use Prim.Native.Nat.{_≤_};
+ghost use Rattle.io.specs.Counts.{Counts};
 use file::Header;
 use libc::STDIN_FILENO;
 use run::Run;
@@ -41,20 +41,31 @@ fn vote(table: &mut [u32], bytes: &mut [u8], out: &mut [u8]) {
     let started = run::start(&bytes[..got]);
     let answer = started.answer;
     if let Header::Refused(number) = answer {
-        let waiting = lines::refusal(out, 0, number);
-        lines::flush(out, waiting);
+        refuse(out, number);
         return;
     }
-    let run = started.run;
+    carry(started.run, table, bytes, got, out);
+}
+
+// A file that holds no vote: one line.
+fn refuse(out: &mut [u8], number: u8) {
+    let waiting = lines::refusal(out, 0, number);
+    lines::flush(out, waiting);
+}
+
+// Plays the events that stand behind the records in the first `got` bytes, then all others.
+fn carry(run: Run, table: &mut [u32], bytes: &mut [u8], got: usize, out: &mut [u8])
+    requires { ⌜ Counts got (now bytes) ⌝ }
+{
     let events = run::rest(&bytes[..got]);
-    let course = play(Course { run, waiting: 0 }, table, events, out);
-    let end = follow(course, table, bytes, got, out);
-    conclude(end, out);
+    let first = play(Course { run, waiting: 0 }, table, events, out);
+    let last = follow(first, table, bytes, got, out);
+    conclude(last, out);
 }
 
 // Fills the first `want` bytes of the buffer, if it has so many, or as many as the input still has.
 fn read(bytes: &mut [u8], want: usize) -> usize
-    ensures { λ r. ⌜ r ≤ length (now (bytes .exit)) ⌝ }
+    ensures { λ r. ⌜ Counts r (now (bytes .exit)) ⌝ }
 {
     if bytes.len() < want {
         return 0;
@@ -72,7 +83,7 @@ fn follow(
 ) -> Course {
     let mut going = course;
     let mut more = first == FIRST;
-    for _buffer in 0..BUFFERS {
+    for buffer in 0..BUFFERS {
         let want = 3 * least(HELD, MOST - going.run.events) as usize;
         if !more | (want == 0) {
             break;
@@ -88,7 +99,7 @@ fn follow(
 fn play(course: Course, table: &mut [u32], events: &[u8], out: &mut [u8]) -> Course {
     let mut going = course;
     let mut at = 0;
-    for _event in 0..events.len() {
+    for call in 0..events.len() {
         let played = run::play(going.run, table, &events[at..]);
         let run = played.run;
         let stop = played.stop;
@@ -106,11 +117,9 @@ fn play(course: Course, table: &mut [u32], events: &[u8], out: &mut [u8]) -> Cou
 fn conclude(course: Course, out: &mut [u8]) {
     let run = course.run;
     let mut waiting = course.waiting;
-    for i in 0..32u32 {
-        if i < run.world.n {
-            let host = run.hosts[i as usize];
-            waiting = lines::host(out, waiting, i, host, run.world);
-        }
+    for i in 0..least(32, run.world.n) {
+        let host = run.hosts[i as usize];
+        waiting = lines::host(out, waiting, i, host, run.world);
     }
     waiting = lines::totals(out, waiting, run.events, run.refused);
     lines::flush(out, waiting);

@@ -5,4 +5,5 @@ pub mod Guarding
 pub mod Happening
 pub mod Runs
 pub mod Sent
+pub mod Starts
 pub mod Unique

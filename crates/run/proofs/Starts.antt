@@ -1,0 +1,80 @@
+-- What a started run is: 32 records, each in range, none of them refused by 13. Assumes nothing.
+use Prim.Native.Nat.{ℕ, zero, suc, _<_}
+use mathlib.Core.Path.{_≡_, refl, ap, _∙_}
+use mathlib.Core.Bool.{Bool, true, false, cond}
+use mathlib.Core.List.{List}
+use native.Mathlib.Nat.{zero-add}
+use native.Mathlib.Omega.{arith}
+use native.Mathlib.Decide.{ℕ-discrete}
+use lib.Dec.{eqb}
+use lib.ListN.{length, getD, set, replicate, length-set, length-replicate, getD-replicate}
+use lib.Seq.{getD-set-same, getD-set-other}
+use Rattle.answer.specs.Answer.{accepted}
+use Rattle.answer.proofs.Guards.{clear}
+use Rattle.host.specs.Record.{Valid}
+use Rattle.host.specs.declared.Host.{Host}
+use Rattle.file.specs.Layouts.{honest, standingOf, threeAt, firstHost}
+use Rattle.run.specs.Starting.{liar, recordPlace, enrolled, startGuards, worldIn, firstRun, starting}
+use Rattle.run.specs.Playing.{noHost, hostAt, after}
+use Rattle.run.specs.Broadcasts.{broadcasts}
+use Rattle.run.specs.declared.Run.{Run}
+use Rattle.run.proofs.Sent.{sent-count, records-valid}
+
+standing-in : (b : Bool) → cond b 3 0 < 4
+standing-in true = omega arith
+standing-in false = omega arith
+
+-- a host starts in range, whatever its bits are
+pub first-valid : (number : ℕ) → Valid (firstHost number)
+first-valid number = record {
+  round-low = omega arith;
+  round-high = omega arith;
+  phase-low = omega arith;
+  phase-high = omega arith;
+  stage = omega arith;
+  own = omega arith;
+  est = omega arith;
+  decision = omega arith;
+  same = λ z. refl;
+  sent = omega arith;
+  standing = standing-in (eqb (honest number) 0);
+}
+
+pub enrolled-length : (bytes : List ℕ) (k : ℕ) → length (enrolled bytes k) ≡ 32
+unfolding enrolled
+enrolled-length bytes zero = length-replicate 32 liar
+enrolled-length bytes (suc k) = length-set (enrolled bytes k) k (firstHost (threeAt bytes (recordPlace k))) ∙ enrolled-length bytes k
+
+-- what every first record has, each of the 32 has
+enrolled-all : (P : Host → Type 0) → ((number : ℕ) → P (firstHost number)) → (bytes : List ℕ) (k i : ℕ) → i < 32
+    → P (getD (enrolled bytes k) i noHost)
+unfolding enrolled
+enrolled-all P first bytes zero i l = rw (getD-replicate 32 i liar noHost l) (first 0)
+enrolled-all P first bytes (suc k) i l = go (ℕ-discrete i k) (enrolled-all P first bytes k i l)
+  where
+    new : Host
+    new = firstHost (threeAt bytes (recordPlace k))
+    go : Dec (i ≡ k) → P (getD (enrolled bytes k) i noHost) → P (getD (set (enrolled bytes k) k new) i noHost)
+    go (no d) before = rw (getD-set-other (enrolled bytes k) k i new noHost d) before
+    go (yes q) before = rw (q, getD-set-same (enrolled bytes k) k new noHost (rw (q, ← enrolled-length bytes k) at l)) (first (threeAt bytes (recordPlace k)))
+
+module _ (bytes : List ℕ) {run : Run} (started : starting bytes ≡ accepted run) where
+  is-first : run ≡ firstRun bytes (worldIn bytes)
+  unfolding starting
+  is-first = clear (startGuards bytes) (firstRun bytes (worldIn bytes)) started .1
+
+  started-length : length (run .hosts) ≡ 32
+  started-length = rw is-first (enrolled-length bytes (worldIn bytes .n))
+
+  started-all : (P : Host → Type 0) → ((number : ℕ) → P (firstHost number)) → (i : ℕ) → i < 32 → P (hostAt run i)
+  started-all P first i l = rw is-first (enrolled-all P first bytes (worldIn bytes .n) i l)
+
+  -- after any number of events each record is in range: no event is refused by 13 for a record
+  pub run-valid : (table : List ℕ) (ps : List (List ℕ)) (i : ℕ) → i < 32 → Valid (hostAt (after run table ps .0) i)
+  run-valid table ps i l = records-valid run table ps i (started-all Valid first-valid i l)
+
+  -- and its sent count is the number of the frames that its host has broadcast
+  pub run-sent : (table : List ℕ) (ps : List (List ℕ)) (i : ℕ) → i < 32 → hostAt (after run table ps .0) i .sent ≡ length (broadcasts run table ps i)
+  run-sent table ps i l =
+      let none : hostAt run i .sent ≡ 0 = started-all (λ h. h .sent ≡ 0) (λ number. refl) i l in
+      sent-count run table ps i (rw started-length l) ∙ rw none (zero-add _)

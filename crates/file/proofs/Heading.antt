@@ -1,11 +1,11 @@
 -- The header's guards in three parts: 1, the world's, then 4. Assumes nothing.
 use Prim.Native.Nat.{ℕ}
-use mathlib.Core.Path.{_≡_, refl, _∙_}
-use mathlib.Core.Bool.{true, false, not}
+use mathlib.Core.Path.{_≡_}
+use mathlib.Core.Bool.{false, not}
 use mathlib.Core.List.{List, [], _∷_}
 use lib.Dec.{ltb, eqb}
 use lib.ListN.{length}
-use Rattle.answer.specs.Answer.{Answer, refused, accepted, Guard, _when_, guarded}
+use Rattle.answer.specs.Answer.{refused, accepted, _when_, guarded}
 use Rattle.answer.proofs.Guards.{stops, goes-on}
 use Rattle.quorum.specs.World.{worldGuards, thresholdsOf, checking}
 use Rattle.quorum.specs.declared.World.{World}

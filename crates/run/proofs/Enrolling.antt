@@ -1,7 +1,7 @@
 -- How the loop of `enrol` reads the records one by one, and how the header comes before them. Assumes nothing.
 use Prim.Native.Nat.{ℕ, zero, suc, _+_, _-_, _≤_, _<_}
-use mathlib.Core.Path.{_≡_, refl, sym, ap, _∙_}
-use mathlib.Core.List.{List, _++_}
+use mathlib.Core.Path.{_≡_, refl, _∙_}
+use mathlib.Core.List.{List}
 use native.Mathlib.Nat.{add-zero, add-suc}
 use native.Mathlib.Omega.{arith}
 use lib.ListN.{set}
@@ -13,7 +13,6 @@ use Rattle.host.specs.declared.Host.{Host}
 use Rattle.file.specs.Layouts.{threeAt, firstHost}
 use Rattle.file.specs.Reading.{headerGuards, recordGuards, heading, enrolling}
 use Rattle.run.specs.Starting.{recordPlace, enrolled, recordsGuards, worldIn, firstRun, starting}
-use Rattle.run.specs.declared.Run.{Run}
 
 -- the first k records are accepted
 abbrev pub Read : List ℕ → ℕ → Type 0

@@ -1,5 +1,5 @@
 -- What guards a call of `play`, and what `rest` makes of a start. Assumes nothing.
-use Prim.Native.Nat.{ℕ, _-_, _≤_}
+use Prim.Native.Nat.{ℕ, _-_}
 use mathlib.Core.Path.{_≡_, refl, sym, ap, _∙_}
 use mathlib.Core.Bool.{true, false}
 use mathlib.Core.List.{List, []}
@@ -12,7 +12,7 @@ use Rattle.quorum.specs.World.{worldGuards, thresholdsOf, checking}
 use Rattle.quorum.specs.declared.World.{World}
 use Rattle.quorum.specs.declared.Thresholds.{Thresholds}
 use Rattle.run.specs.Starting.{recordPlace, besideIt, restBy}
-use Rattle.run.specs.Playing.{pieces, Ending, course}
+use Rattle.run.specs.Playing.{pieces, course}
 use Rattle.run.specs.Calls.{left, playing}
 use Rattle.run.specs.Parts.{courseSays}
 use Rattle.run.specs.declared.Run.{Run}

@@ -1,18 +1,16 @@
 -- What stands at a place of the bytes is the first of their pieces from there on. Assumes nothing.
 use Prim.Native.Nat.{ℕ, suc, _+_, _-_, _≤_, _<_}
 use mathlib.Core.Path.{_≡_, refl, sym, ap, _∙_}
-use mathlib.Core.Bool.{true, false}
 use mathlib.Core.List.{List, [], _∷_}
 use native.Mathlib.Omega.{arith}
 use native.Mathlib.Nat.{sub-zero, add-zero}
 use borrow.Author.Tests.{ne-eqb, le-ltb}
-use lib.Dec.{eqb, ltb}
-use lib.ListN.{length, take, drop, getD, length-drop}
+use lib.ListN.{length, take, drop, length-drop}
 use lib.Seq.{getD-drop, drop-drop}
 use Rattle.answer.specs.Answer.{Answer, refused, accepted}
 use Rattle.answer.proofs.Guards.{not-both}
-use Rattle.file.specs.Layouts.{three, threeAt, eventOf}
-use Rattle.file.specs.Reading.{Sight, nothing, something, eventIn, eventAt}
+use Rattle.file.specs.Layouts.{three, eventOf}
+use Rattle.file.specs.Reading.{nothing, something, eventIn, eventAt}
 use Rattle.file.specs.declared.Event.{Event}
 use Rattle.run.specs.Playing.{pieces, hostIn}
 

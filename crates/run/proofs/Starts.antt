@@ -1,19 +1,19 @@
 -- What a started run is: 32 records, each in range, none of them refused by 13. Assumes nothing.
 use Prim.Native.Nat.{ℕ, zero, suc, _<_}
-use mathlib.Core.Path.{_≡_, refl, ap, _∙_}
+use mathlib.Core.Path.{_≡_, refl, _∙_}
 use mathlib.Core.Bool.{Bool, true, false, cond}
 use mathlib.Core.List.{List}
 use native.Mathlib.Nat.{zero-add}
 use native.Mathlib.Omega.{arith}
 use native.Mathlib.Decide.{ℕ-discrete}
 use lib.Dec.{eqb}
-use lib.ListN.{length, getD, set, replicate, length-set, length-replicate, getD-replicate}
+use lib.ListN.{length, getD, set, length-set, length-replicate, getD-replicate}
 use lib.Seq.{getD-set-same, getD-set-other}
 use Rattle.answer.specs.Answer.{accepted}
 use Rattle.answer.proofs.Guards.{clear}
 use Rattle.host.specs.Record.{Valid}
 use Rattle.host.specs.declared.Host.{Host}
-use Rattle.file.specs.Layouts.{honest, standingOf, threeAt, firstHost}
+use Rattle.file.specs.Layouts.{honest, threeAt, firstHost}
 use Rattle.run.specs.Starting.{liar, recordPlace, enrolled, startGuards, worldIn, firstRun, starting}
 use Rattle.run.specs.Playing.{noHost, hostAt, after}
 use Rattle.run.specs.Broadcasts.{broadcasts}
@@ -54,6 +54,7 @@ enrolled-all P first bytes (suc k) i l = go (ℕ-discrete i k) (enrolled-all P f
   where
     new : Host
     new = firstHost (threeAt bytes (recordPlace k))
+
     go : Dec (i ≡ k) → P (getD (enrolled bytes k) i noHost) → P (getD (set (enrolled bytes k) k new) i noHost)
     go (no d) before = rw (getD-set-other (enrolled bytes k) k i new noHost d) before
     go (yes q) before = rw (q, getD-set-same (enrolled bytes k) k new noHost (rw (q, ← enrolled-length bytes k) at l)) (first (threeAt bytes (recordPlace k)))

@@ -1,7 +1,6 @@
 -- How the loop of `walk` follows a course: `at` bytes are taken, and what is left is the course from here on. Assumes nothing.
 use Prim.Native.Nat.{ℕ, _+_, _<_, _≤_}
 use mathlib.Core.Path.{_≡_, refl, sym, ap, _∙_}
-use mathlib.Core.Bool.{true, false, cond}
 use mathlib.Core.List.{List, [], _∷_}
 use native.Mathlib.Omega.{arith}
 use native.Mathlib.Nat.{add-zero, add-assoc}
@@ -14,7 +13,7 @@ use Rattle.turn.specs.Applying.{Turn}
 use Rattle.file.specs.Reading.{something, eventAt}
 use Rattle.file.specs.declared.Event.{Event}
 use Rattle.table.specs.Stepping.{stepping}
-use Rattle.run.specs.Playing.{pieces, senderIn, hostIn, hostAt, happens, recordAfter, mostEvents, full, settled, Ending, stopped, Course, resting, further, onwards, course}
+use Rattle.run.specs.Playing.{pieces, senderIn, hostIn, hostAt, happens, recordAfter, mostEvents, settled, Ending, stopped, Course, resting, further, course}
 use Rattle.run.specs.Parts.{recordBy, playedSays, endedAt, stoppedAt, courseSays}
 use Rattle.run.specs.Calls.{stopSays}
 use Rattle.run.proofs.Showing.{sees-piece, sees-event}

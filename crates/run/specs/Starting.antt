@@ -1,7 +1,7 @@
 -- How a run starts: the header and host records of a run file, and the rest of its bytes. Document 01, "Frames and run files" and "Refusal
 -- numbers": "Header: 1, 2, 3, 4; then per host record 1, 4".
 use Prim.Native.Nat.{ℕ, zero, suc, _+_, _*_}
-use mathlib.Core.List.{List, [], _∷_, _++_}
+use mathlib.Core.List.{List, [], _++_}
 use lib.ListN.{set, replicate, drop}
 use Rattle.answer.specs.Answer.{Answer, refused, accepted, Guard, guarded}
 use Rattle.quorum.specs.World.{worldOf}

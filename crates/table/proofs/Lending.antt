@@ -1,9 +1,9 @@
 -- A host's part of the table, lent to a call and given back. Assumes nothing.
-use Prim.Native.Nat.{ℕ, _+_, _-_, _*_, _≤_}
+use Prim.Native.Nat.{ℕ, _+_, _-_, _*_}
 use mathlib.Core.Path.{_≡_, ap, ap₂, _∙_}
 use mathlib.Core.List.{List, _++_}
 use native.Mathlib.Omega.{arith}
-use lib.ListN.{take, drop}
+use lib.ListN.{take}
 use borrow.Rule.Slice.PartMut.{midOf, putMid, post-is}
 use Rattle.answer.specs.Answer.{Answer}
 use Rattle.table.specs.Table.{partOf, withPart, onPart}

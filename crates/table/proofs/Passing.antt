@@ -1,9 +1,8 @@
 -- What the guards of a step tell where they are clear, and what an unpacked word tells of its sender. Assumes nothing.
-use Prim.Native.Nat.{ℕ, _≤_, _<_, _%_}
+use Prim.Native.Nat.{ℕ, _≤_, _<_}
 use mathlib.Core.Path.{_≡_, ap}
-use mathlib.Core.Bool.{false, _&&_, _||_}
+use mathlib.Core.Bool.{_&&_, _||_}
 use native.Mathlib.Omega.{arith}
-use native.Mathlib.Nat.{div-one, mod-lt}
 use borrow.Author.Tests.{ltb-false, leb-false}
 use lib.Dec.{ltb}
 use Rattle.answer.specs.Answer.{Answer, accepted}

@@ -7,7 +7,6 @@
 mod parts;
 
 ghost use mathlib.Core.Path.{_≡_};
-ghost use lib.ListN.{length};
 ghost use Rattle.frame.specs.Frame.{soundSays};
 ghost use Rattle.table.specs.Stepping.{readying, Steps};
 use file::Event;

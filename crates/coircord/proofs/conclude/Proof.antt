@@ -1,7 +1,6 @@
 -- `conclude` ends, and reads the records of at most 32 hosts. Assumes nothing.
 use Prim.Native.Nat.{_-_, _≤_}
-use mathlib.Core.Path.{_≡_, refl, _∙_}
-use native.Mathlib.Omega.{arith}
+use mathlib.Core.Path.{_≡_}
 use lib.ListN.{length}
 use borrow.Author.Needs.{needs}
 use Rattle.coircord.proofs.conclude.Statement.{statement}

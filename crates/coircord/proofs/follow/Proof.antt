@@ -1,7 +1,6 @@
 -- `follow` ends: it fills no more buffers than hold all events that a run takes. Assumes nothing.
 use Prim.Native.Nat.{_-_, _≤_}
-use mathlib.Core.Path.{_≡_, refl, _∙_}
-use native.Mathlib.Omega.{arith}
+use mathlib.Core.Path.{_≡_}
 use lib.ListN.{length}
 use borrow.Author.Needs.{needs}
 use Rattle.coircord.proofs.follow.Statement.{statement}

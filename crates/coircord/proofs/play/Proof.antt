@@ -1,7 +1,6 @@
 -- `play` ends: it is called at most once for each byte, and its place stays within the bytes. Assumes nothing.
 use Prim.Native.Nat.{_-_, _≤_}
-use mathlib.Core.Path.{_≡_, refl, _∙_}
-use native.Mathlib.Omega.{arith}
+use mathlib.Core.Path.{_≡_}
 use lib.ListN.{length}
 use borrow.Author.Needs.{needs}
 use Rattle.coircord.proofs.play.Statement.{statement}

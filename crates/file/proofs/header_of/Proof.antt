@@ -4,8 +4,7 @@ use native.Mathlib.Nat.{div-one}
 use denote.Ref.{now}
 use borrow.Author.Needs.{needs}
 use borrow.Author.Tests.{lt-ltb, le-ltb, eq-eqb, ne-eqb}
-use Rattle.answer.specs.Answer.{accepted}
-use Rattle.quorum.specs.World.{checking, checkedSays}
+use Rattle.quorum.specs.World.{checkedSays}
 use Rattle.file.specs.Reading.{heading}
 use Rattle.file.proofs.Heading.{head-stops, head-goes-on}
 use Rattle.file.proofs.header_of.Statement.{statement}

@@ -1,6 +1,6 @@
 -- `rest` meets its promise: nothing of a refused file, else the bytes behind its records. Assumes nothing.
 use Prim.Native.Nat.{_≤_}
-use mathlib.Core.Path.{_≡_, sym, ap, _∙_}
+use mathlib.Core.Path.{sym, ap, _∙_}
 use native.Mathlib.Omega.{arith}
 use lib.ListN.{length, drop-of-length-le}
 use denote.Ref.{now}

@@ -1,5 +1,5 @@
 -- `walk` meets its promise: at each turn of the loop the whole course is the bytes taken so far and the course from here on. Assumes nothing.
-use Prim.Native.Nat.{ℕ, _+_, _-_, _≤_}
+use Prim.Native.Nat.{ℕ, _-_, _≤_}
 use mathlib.Core.Path.{_≡_, refl, sym, ap, _∙_}
 use native.Mathlib.Omega.{arith}
 use native.Mathlib.Nat.{zero-add}
@@ -13,8 +13,8 @@ use Rattle.file.specs.Reading.{something, eventAt, seenSays}
 use Rattle.table.specs.Stepping.{stepping}
 use Rattle.run.specs.Playing.{pieces, senderIn, hostAt, further, course}
 use Rattle.run.specs.Parts.{settledSays, recordBy}
-use Rattle.run.proofs.Showing.{sees-nothing, sees-piece, sees-event}
-use Rattle.run.proofs.Walking.{rests-full, rests-empty, stops-here, goes-on-here, walk-ends, walk-piece, walk-refused, walk-goes, within, unsettled}
+use Rattle.run.proofs.Showing.{sees-nothing, sees-event}
+use Rattle.run.proofs.Walking.{rests-full, rests-empty, walk-ends, walk-piece, walk-refused, walk-goes, within, unsettled}
 use borrow.Author.Needs.{needs}
 use Rattle.run.proofs.events.walk.Statement.{statement}
 use Rattle.run.proofs.events.walk.Tie as tie

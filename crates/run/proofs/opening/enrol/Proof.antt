@@ -5,7 +5,7 @@ use mathlib.Core.List.{List}
 use native.Mathlib.Omega.{arith}
 use native.Mathlib.Numerals.{add-one}
 use denote.Ref.{now}
-use Rattle.answer.specs.Answer.{Answer, accepted}
+use Rattle.answer.specs.Answer.{accepted}
 use Rattle.host.specs.declared.Host.{Host}
 use Rattle.file.specs.Reading.{recordSays}
 use Rattle.run.specs.Starting.{enrolled, freshRun, firstRun, besideIt}

@@ -1,14 +1,14 @@
 -- `deliver` meets its promise: the sender is asked, then the host's words are lent to its delivery. Assumes nothing.
 use Prim.Native.Nat.{ℕ, _+_, _-_, _*_}
-use mathlib.Core.Path.{_≡_, ap, ap₂, _∙_}
+use mathlib.Core.Path.{_≡_}
 use mathlib.Core.List.{List}
 use borrow.Rule.Slice.PartMut.{midOf}
 use denote.Ref.{now}
 use Rattle.answer.specs.Answer.{Answer}
-use Rattle.delivery.specs.Delivery.{deliveringWord, deliveredSays}
+use Rattle.delivery.specs.Delivery.{deliveringWord}
 use Rattle.turn.specs.Applying.{Turn}
 use Rattle.turn.specs.Turning.{turnedSays}
-use Rattle.table.specs.Table.{said, passed, passedOn, deliveringAt}
+use Rattle.table.specs.Table.{said, passedOn, deliveringAt}
 use Rattle.table.proofs.Lending.{on-part}
 use borrow.Author.Needs.{needs}
 use Rattle.table.proofs.parts.deliver.Statement.{statement}

@@ -1,7 +1,6 @@
 -- `said` meets its promise: a word that is no frame is not said, and of a frame its sender is asked. Assumes nothing.
 use mathlib.Core.Path.{sym, ap, _∙_}
 use native.Mathlib.Omega.{arith}
-use denote.Ref.{now}
 use Rattle.frame.specs.Frame.{unpackedSays}
 use Rattle.table.specs.Table.{said}
 use Rattle.table.proofs.Lending.{part-lent}

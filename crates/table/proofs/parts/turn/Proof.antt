@@ -1,6 +1,4 @@
 -- `turn` meets its promise: the host's words are lent to its turn. Assumes nothing.
-use mathlib.Core.Path.{_≡_}
-use mathlib.Core.List.{List}
 use denote.Ref.{now}
 use Rattle.turn.specs.Turning.{turning, turnedSays}
 use Rattle.table.specs.Table.{turningAt}

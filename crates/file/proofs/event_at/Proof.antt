@@ -23,5 +23,8 @@ returns-3 c =
 pub event-at-spec : {M : Type 1} → statement M
 event-at-spec =
     tie.close
-    (tie.spec (λ c κs. search needs) returns returns-2 (λ c. omega (arith, c .before .before .before .left-from .ensures)) (λ c. omega (arith, c .before .before .before .left-from .ensures)) (λ c. omega (arith, c .before .before .before .before .left-from .ensures)) (λ c. omega (arith, c .before .before .before .before .left-from .ensures))
+    (tie.spec (λ c κs. search needs) returns returns-2 (λ c. omega (arith, c .before .before .before .left-from .ensures))
+    (λ c. omega (arith, c .before .before .before .left-from .ensures))
+    (λ c. omega (arith, c .before .before .before .before .left-from .ensures))
+    (λ c. omega (arith, c .before .before .before .before .left-from .ensures))
     (λ c. omega (arith, c .before .before .before .before .before .left-from .ensures)) (λ c κs. search needs) (λ c κs. search needs) returns-3)

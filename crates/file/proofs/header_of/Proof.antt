@@ -18,14 +18,16 @@ returns-2 : tie.Need-returns-2
 returns-2 c =
     let k = c .before .before .before .before in
     let a = k .before .before .before .before .before .before .args in
-    sym (head-stops (now (a .bytes)) (k .before .two .result) (k .world-of .result) (le-ltb _ _ (k .before .before .before .before .if1 .left)) (k .before .two .ensures) (k .world-of .ensures)
+    sym (head-stops (now (a .bytes)) (k .before .two .result) (k .world-of .result)
+    (le-ltb _ _ (k .before .before .before .before .if1 .left)) (k .before .two .ensures) (k .world-of .ensures)
     (sym (c .before .before .before .check .ensures) ∙ ap checkedSays (c .before .checked .given .1)))
 
 returns-3 : tie.Need-returns-3
 returns-3 c =
     let k = c .before .before .before .before in
     let a = k .before .before .before .before .before .before .args in
-    sym (head-goes-on (now (a .bytes)) (k .before .two .result) (k .world-of .result) (le-ltb _ _ (k .before .before .before .before .if1 .left)) (k .before .two .ensures) (k .world-of .ensures)
+    sym (head-goes-on (now (a .bytes)) (k .before .two .result) (k .world-of .result)
+    (le-ltb _ _ (k .before .before .before .before .if1 .left)) (k .before .two .ensures) (k .world-of .ensures)
     (sym (c .before .before .before .check .ensures) ∙ ap checkedSays (c .before .enum-told .given .1))
     ∙ simp (div-one, ne-eqb _ _ (c .if2 .taken)))
 
@@ -33,7 +35,8 @@ returns-4 : tie.Need-returns-4
 returns-4 c =
     let k = c .before .before .before .before in
     let a = k .before .before .before .before .before .before .args in
-    sym (head-goes-on (now (a .bytes)) (k .before .two .result) (k .world-of .result) (le-ltb _ _ (k .before .before .before .before .if1 .left)) (k .before .two .ensures) (k .world-of .ensures)
+    sym (head-goes-on (now (a .bytes)) (k .before .two .result) (k .world-of .result)
+    (le-ltb _ _ (k .before .before .before .before .if1 .left)) (k .before .two .ensures) (k .world-of .ensures)
     (sym (c .before .before .before .check .ensures) ∙ ap checkedSays (c .before .enum-told .given .1))
     ∙ simp (div-one, eq-eqb _ _ (c .if2 .left)))
 

@@ -20,10 +20,20 @@ returns-3 : tie.Need-returns-3
 unfolding enrolling
 returns-3 c =
     let k = c .before .before .before .before .before .before .before in
-    simp (c .host-of .ensures, ← c .before .before .before .three .ensures, ← c .before .before .bad-record .ensures, c .before .if2 .left, ← k .before .left-from .ensures, le-ltb _ _ (k .if1 .left))
+    simp (
+      c .host-of .ensures,
+      ← c .before .before .before .three .ensures,
+      ← c .before .before .bad-record .ensures,
+      c .before .if2 .left,
+      ← k .before .left-from .ensures,
+      le-ltb _ _ (k .if1 .left),
+    )
 
 pub record-at-spec : {M : Type 1} → statement M
 record-at-spec =
     tie.close
-    (tie.spec (λ c κs. search needs) returns (λ c. omega (arith, c .before .before .left-from .ensures)) (λ c. omega (arith, c .before .before .left-from .ensures)) (λ c. omega (arith, c .before .before .before .left-from .ensures)) (λ c. omega (arith, c .before .before .before .left-from .ensures))
-    (λ c. omega (arith, c .before .before .before .before .left-from .ensures)) (λ c κs. search needs) (λ c κs. search needs) returns-2 (λ c κs. search needs) returns-3)
+    (tie.spec (λ c κs. search needs) returns (λ c. omega (arith, c .before .before .left-from .ensures))
+    (λ c. omega (arith, c .before .before .left-from .ensures)) (λ c. omega (arith, c .before .before .before .left-from .ensures))
+    (λ c. omega (arith, c .before .before .before .left-from .ensures))
+    (λ c. omega (arith, c .before .before .before .before .left-from .ensures)) (λ c κs. search needs) (λ c κs. search needs) returns-2
+    (λ c κs. search needs) returns-3)

@@ -28,13 +28,17 @@ unfolding beside-table
 returns-2 c =
     let a = c .before .before .before .before .before .before .before .before .args in
     ap (beside-table (now (a .table))) (c .refuse2 .ensures)
-    ∙ sym (play-stops (a .run) (now (a .table)) (now (a .bytes)) (le-ltb _ _ (c .before .before .before .before .before .if1 .left)) (sym (c .before .before .before .before .check .ensures) ∙ ap checkedSays (c .before .before .checked .given .1)))
+    ∙ sym (play-stops (a .run) (now (a .table)) (now (a .bytes))
+    (le-ltb _ _ (c .before .before .before .before .before .if1 .left))
+    (sym (c .before .before .before .before .check .ensures) ∙ ap checkedSays (c .before .before .checked .given .1)))
 
 returns-3 : tie.Need-returns-3
 returns-3 c =
     let a = c .before .before .before .before .before .before .before .before .before .before .args in
     c .before .before .walk .ensures
-    ∙ sym (play-goes (a .run) (now (a .table)) (now (a .bytes)) (le-ltb _ _ (c .before .before .before .before .before .before .before .if1 .left)) (sym (c .before .before .before .before .before .before .check .ensures) ∙ ap checkedSays (c .before .before .before .before .enum-told .given .1)))
+    ∙ sym (play-goes (a .run) (now (a .table)) (now (a .bytes))
+    (le-ltb _ _ (c .before .before .before .before .before .before .before .if1 .left))
+    (sym (c .before .before .before .before .before .before .check .ensures) ∙ ap checkedSays (c .before .before .before .before .enum-told .given .1)))
 
 pub play-spec : {M : Type 1} → statement M
 play-spec =

@@ -11,18 +11,21 @@ use Rattle.run.proofs.start.Tie as tie
 enrol-requires : tie.Need-enrol-requires
 enrol-requires c κs =
     let k = c .before .before .before in
-    header-passes (now (k .before .before .args .bytes)) (c .before .header2 .given .0 .0) (sym (k .header-of .ensures) ∙ ap headerSays (c .before .header2 .given .1)) .0
+    header-passes (now (k .before .before .args .bytes)) (c .before .header2 .given .0 .0)
+    (sym (k .header-of .ensures) ∙ ap headerSays (c .before .header2 .given .1)) .0
 
 returns : tie.Need-returns
 returns c =
     let k = c .before .before .before .before in
-    c .refuse .ensures ∙ sym (ap besideIt (header-stops (now (k .before .before .args .bytes)) (sym (k .header-of .ensures) ∙ ap headerSays (c .before .before .header .given .1))))
+    c .refuse .ensures ∙ sym (ap besideIt (header-stops (now (k .before .before .args .bytes))
+    (sym (k .header-of .ensures) ∙ ap headerSays (c .before .before .header .given .1))))
 
 returns-2 : tie.Need-returns-2
 returns-2 c =
     let k = c .before .before .before .before in
     c .enrol .ensures
-    ∙ sym (ap besideIt (header-passes (now (k .before .before .args .bytes)) (c .before .before .header2 .given .0 .0) (sym (k .header-of .ensures) ∙ ap headerSays (c .before .before .header2 .given .1)) .1))
+    ∙ sym (ap besideIt (header-passes (now (k .before .before .args .bytes)) (c .before .before .header2 .given .0 .0)
+    (sym (k .header-of .ensures) ∙ ap headerSays (c .before .before .header2 .given .1)) .1))
 
 pub start-spec : {M : Type 1} → statement M
 start-spec =

@@ -21,7 +21,8 @@ returns-2 c =
     let k = c .before .before .before .before in
     let a = k .before .before .before .before .args in
     simp (← k .before .before .before .out-of-range .ensures, ← k .before .before .out-of-range2 .ensures, k .if1 .left)
-    (sym (stops (worldGuards (a .world)) (eventGuards (a .event) (a .world)) (thresholdsOf (a .world)) (accepted tt) (sym (c .before .before .before .check .ensures) ∙ ap checkedSays (c .before .checked .given .1))))
+    (sym (stops (worldGuards (a .world)) (eventGuards (a .event) (a .world)) (thresholdsOf (a .world)) (accepted tt)
+    (sym (c .before .before .before .check .ensures) ∙ ap checkedSays (c .before .checked .given .1))))
 
 returns-3 : tie.Need-returns-3
 unfolding readying checking allowing
@@ -30,7 +31,8 @@ returns-3 c =
     let a = k .before .before .before .before .args in
     c .check2 .ensures
     ∙ simp (← k .before .before .before .out-of-range .ensures, ← k .before .before .out-of-range2 .ensures, k .if1 .left)
-    (sym (goes-on (worldGuards (a .world)) (eventGuards (a .event) (a .world)) (thresholdsOf (a .world)) (accepted tt) (sym (c .before .before .before .check .ensures) ∙ ap checkedSays (c .before .enum-told .given .1))))
+    (sym (goes-on (worldGuards (a .world)) (eventGuards (a .event) (a .world)) (thresholdsOf (a .world)) (accepted tt)
+    (sym (c .before .before .before .check .ensures) ∙ ap checkedSays (c .before .enum-told .given .1))))
 
 pub gate-spec : {M : Type 1} → statement M
 gate-spec =

@@ -48,7 +48,8 @@ element-copy-out-host : tie.Need-element-copy-out-host Inv-loop μ-loop
 element-copy-out-host c =
     let s = c .before .before .before in
     let k = s .before .before .before .before in
-    let (_, _, _, i, _) = sees-event (now (k .before .before .before .args .bytes)) (k .loop .at) (sym (s .before .before .event-at .ensures) ∙ ap seenSays (s .seen2 .given .1)) in
+    let (_, _, _, i, _) = sees-event (now (k .before .before .before .args .bytes)) (k .loop .at)
+    (sym (s .before .before .event-at .ensures) ∙ ap seenSays (s .seen2 .given .1)) in
     i
 
 same-length-3 : tie.Need-same-length-3 Inv-loop μ-loop
@@ -68,13 +69,15 @@ returns-3 c =
     (stepping (l .table) (hostAt (l .going) (e .host)) (hostAt (l .going) (senderIn e)) (l .going .world) e) =
     rw (← k .before .before .before .before .before .sender-of .ensures .0) (k .step .ensures) in
     walk-refused (l .going) (l .table) bytes (l .at) (l .inv .2) (s .before .before .before .loop-test .taken) seen stepped (c .stop2 .result)
-    (unsettled (hostAt (l .going) (e .host)) (turnedSays (k .step .result)) (ap settledSays (sym (c .before .before .settled .given .1)) ∙ c .before .before .before .before .settle .ensures)) (c .stop2 .ensures)
+    (unsettled (hostAt (l .going) (e .host)) (turnedSays (k .step .result))
+    (ap settledSays (sym (c .before .before .settled .given .1)) ∙ c .before .before .before .before .settle .ensures)) (c .stop2 .ensures)
 
 element-set-from-next : tie.Need-element-set-from-next Inv-loop μ-loop
 element-set-from-next c =
     let s = c .before .before .before .before .before .before .before .before .before .before .before .before .before .before in
     let k = s .before .before .before .before in
-    let (_, _, _, i, _) = sees-event (now (k .before .before .before .args .bytes)) (k .loop .at) (sym (s .before .before .event-at .ensures) ∙ ap seenSays (s .seen2 .given .1)) in
+    let (_, _, _, i, _) = sees-event (now (k .before .before .before .args .bytes)) (k .loop .at)
+    (sym (s .before .before .event-at .ensures) ∙ ap seenSays (s .seen2 .given .1)) in
     i
 
 loop-less : tie.Need-loop-less Inv-loop μ-loop
@@ -97,8 +100,12 @@ loop-again c =
     (stepping (l .table) (hostAt (l .going) (e .host)) (hostAt (l .going) (senderIn e)) (l .going .world) e) =
     rw (← k .before .before .before .before .before .sender-of .ensures .0) (k .step .ensures) in
     let (_, _, _, _, n) = sees-event bytes (l .at) seen in
-    let settled : accepted (c .before .settled2 .given .0 .0) ≡ recordBy (hostAt (l .going) (e .host)) (turnedSays (k .step .result)) = ap settledSays (sym (c .before .settled2 .given .1)) ∙ c .before .before .before .settle .ensures in
-    (within bytes (l .at) n, k .step .kept .0 ∙ l .inv .1, walk-goes (l .going) (l .table) bytes (l .at) (l .inv .2) (s .before .before .before .loop-test .taken) seen stepped settled)
+    let settled : accepted (c .before .settled2 .given .0 .0) ≡ recordBy (hostAt (l .going) (e .host)) (turnedSays (k .step .result)) =
+    ap settledSays (sym (c .before .settled2 .given .1)) ∙ c .before .before .before .settle .ensures in (
+      within bytes (l .at) n,
+      k .step .kept .0 ∙ l .inv .1,
+      walk-goes (l .going) (l .table) bytes (l .at) (l .inv .2) (s .before .before .before .loop-test .taken) seen stepped settled,
+    )
 
 returns-4 : tie.Need-returns-4 Inv-loop μ-loop
 returns-4 c =
@@ -110,5 +117,8 @@ returns-4 c =
 pub walk-spec : {M : Type 1} → statement M
 walk-spec =
     tie.close
-    (tie.spec Inv-loop μ-loop
-    loop-holds (λ c κs. search needs) (λ c. search needs) (λ c κs. search needs) (λ c. search needs) returns (λ c. search needs) (λ c κs. search needs) (λ c. search needs) returns-2 (λ c. search needs) (λ c. search needs) (λ c κs. search needs) (λ c. search needs) element-copy-out-host (λ c. search needs) (λ c. search needs) (λ c κs. search needs) (λ c κs. search needs) (λ c. search needs) (λ c. search needs) (λ c κs. search needs) same-length-3 returns-3 (λ c. search needs) (λ c. search needs) element-set-from-next (λ c. search needs) loop-less loop-again (λ c κs. search needs) (λ c. search needs) returns-4)
+    (tie.spec Inv-loop μ-loop loop-holds (λ c κs. search needs) (λ c. search needs) (λ c κs. search needs) (λ c. search needs) returns
+    (λ c. search needs) (λ c κs. search needs) (λ c. search needs) returns-2 (λ c. search needs) (λ c. search needs) (λ c κs. search needs)
+    (λ c. search needs) element-copy-out-host (λ c. search needs) (λ c. search needs) (λ c κs. search needs) (λ c κs. search needs)
+    (λ c. search needs) (λ c. search needs) (λ c κs. search needs) same-length-3 returns-3 (λ c. search needs) (λ c. search needs)
+    element-set-from-next (λ c. search needs) loop-less loop-again (λ c κs. search needs) (λ c. search needs) returns-4)

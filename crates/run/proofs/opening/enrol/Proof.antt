@@ -30,7 +30,9 @@ returns c =
     let a = c .before .before .before .before .before .before .before .before .before .before .args in
     c .refuse .ensures
     ∙ simp (c .before .number .ensures, c .before .before .enum-told .given .1)
-    (sym (ap besideIt (records-stop (now (a .bytes)) (l .i) (a .world .n) (accepted (firstRun (now (a .bytes)) (a .world))) (omega arith) (l .inv .3) (sym (c .before .before .before .before .record-at .ensures) ∙ ap recordSays (c .before .before .enum-told .given .1)))))
+    (sym (ap besideIt (records-stop (now (a .bytes)) (l .i) (a .world .n)
+    (accepted (firstRun (now (a .bytes)) (a .world))) (omega arith) (l .inv .3)
+    (sym (c .before .before .before .before .record-at .ensures) ∙ ap recordSays (c .before .before .enum-told .given .1)))))
 
 loop-again : tie.Need-loop-again Inv-loop μ-loop
 loop-again c =

@@ -21,9 +21,12 @@ returns c =
     let s = k .before .before .before in
     let a = s .before .before .before .args in
     let word = a .event .word in
-    let part : _≡_ {A = Answer Turn × List ℕ} (turnedSays (c .pass .result), k .deliver-word .last .0) (passedOn (deliveringWord (midOf (448 * a .event .host) (448 * a .event .host + 448 - 448 * a .event .host) (now (a .table))) (a .host) (a .world) word (s .said .result))) =
+    let part : _≡_ {A = Answer Turn × List ℕ} (turnedSays (c .pass .result), k .deliver-word .last .0)
+    (passedOn (deliveringWord (midOf (448 * a .event .host) (448 * a .event .host + 448 - 448 * a .event .host) (now (a .table))) (a .host) (a .world) word (s .said .result))) =
     simp (c .pass .ensures, ← k .deliver-word .ensures) in
-    simp (← s .said .ensures) (on-part (now (a .table)) (a .event .host) (λ words. passedOn (deliveringWord words (a .host) (a .world) word (s .said .result))) (turnedSays (c .pass .result)) (k .deliver-word .last .0) part)
+    simp (← s .said .ensures) (on-part (now (a .table)) (a .event .host)
+    (λ words. passedOn (deliveringWord words (a .host) (a .world) word (s .said .result)))
+    (turnedSays (c .pass .result)) (k .deliver-word .last .0) part)
 
 pub deliver-spec : {M : Type 1} → statement M
 deliver-spec =

@@ -12,7 +12,8 @@ unfolding turningAt
 returns c =
     let k = c .before .before in
     let a = k .before .before .before .before .before .args in
-    on-part (now (a .table)) (a .event .host) (λ words. turning words (a .host) (a .world) (a .event .host)) (turnedSays (k .turn .result)) (k .turn .last .0) (k .turn .ensures)
+    on-part (now (a .table)) (a .event .host) (λ words. turning words (a .host) (a .world) (a .event .host))
+    (turnedSays (k .turn .result)) (k .turn .last .0) (k .turn .ensures)
 
 pub turn-spec : {M : Type 1} → statement M
 turn-spec =

@@ -1,8 +1,8 @@
 -- Laws of decimal numbers. Assumes nothing.
 use Prim.Native.Nat.{ℕ, zero, suc, _+_, _/_, _%_, _^_, _≤_, _<_}
-use mathlib.Core.Path.{_≡_, refl, sym, ap, _∙_}
+use mathlib.Core.Path.{_≡_, refl, ap, _∙_}
 use mathlib.Core.Bool.{Bool, true, false}
-use mathlib.Core.List.{List, [], _∷_, _++_}
+use mathlib.Core.List.{[], _∷_, _++_}
 use native.Mathlib.Decide.{decLt}
 use native.Mathlib.Nat.{pow-suc}
 use native.Mathlib.Omega.{arith}
@@ -32,12 +32,12 @@ pub decimal-more : (n : ℕ) → 10 ≤ n → decimal n ≡ decimal (n / 10) ++ 
 unfolding decimal digitsIn
 decimal-more n l = rw (le-ltb n 10 l, same n (suc (n / 10)) (n / 10) (omega arith) (omega arith))
 
--- a number takes one digit more than its tenth
-pub length-more : (n : ℕ) → 10 ≤ n → length (decimal n) ≡ length (decimal (n / 10)) + 1
-length-more n l = ap length (decimal-more n l) ∙ length-append (decimal (n / 10)) (digit (n % 10) ∷ [])
-
+-- how many digits a number takes: one, or one more than its tenth
 pub length-one : (n : ℕ) → n < 10 → length (decimal n) ≡ 1
 length-one n l = ap length (decimal-one n l)
+
+pub length-more : (n : ℕ) → 10 ≤ n → length (decimal n) ≡ length (decimal (n / 10)) + 1
+length-more n l = ap length (decimal-more n l) ∙ length-append (decimal (n / 10)) (digit (n % 10) ∷ [])
 
 -- a number below 10, 100, 1000 .. takes at most 1, 2, 3 .. digits
 pub few : (k n : ℕ) → n < 10 ^ suc k → length (decimal n) ≤ suc k

@@ -1,8 +1,8 @@
 -- The patterns that are put, filled, are the lines, and how long these are. Assumes nothing.
 use Prim.Native.Nat.{ℕ, _+_, _≤_, _<_}
-use mathlib.Core.Path.{_≡_, refl, sym, ap, _∙_}
+use mathlib.Core.Path.{_≡_, refl}
 use mathlib.Core.Bool.{Bool, true, false}
-use mathlib.Core.List.{List, [], _∷_, _++_, append-assoc}
+use mathlib.Core.List.{List, _++_, append-assoc}
 use native.Mathlib.Omega.{arith}
 use lib.Dec.{eqb}
 use lib.ListN.{length, length-append}
@@ -51,10 +51,12 @@ totals-most events refusals k l =
     omega (arith, lengths (text "events ") (decimal events) (text " refused ") (decimal refusals) (text "\n"), few 9 events k, few 9 refusals l)
 
 -- ---- The host line
+
 -- of a host that does not lie, with this word for its standing
-word-is : (me : ℕ) (h : Host) (word : List ℕ) → text "host " ++ (decimal me ++ (text " " ++ (word ++ (text " round " ++ (decimal (h .round) ++ (text " phase "
-    ++ (decimal (h .phase) ++ (text " stage " ++ (decimal (h .stage) ++ (text " est " ++ (decimal (h .est) ++ (text " decided " ++ (decisionWord h
-    ++ (text " sent " ++ (decimal (h .sent) ++ text "\n"))))))))))))))) ≡ text "host " ++ decimal me ++ text " " ++ (word ++ fields h) ++ text "\n"
+word-is : (me : ℕ) (h : Host) (word : List ℕ) → text "host " ++ (decimal me ++ (text " " ++ (word
+    ++ (text " round " ++ (decimal (h .round) ++ (text " phase " ++ (decimal (h .phase) ++ (text " stage " ++ (decimal (h .stage)
+    ++ (text " est " ++ (decimal (h .est) ++ (text " decided " ++ (decisionWord h ++ (text " sent " ++ (decimal (h .sent) ++ text "\n")))))))))))))))
+    ≡ text "host " ++ decimal me ++ text " " ++ (word ++ fields h) ++ text "\n"
 word-is me h word = simp append-assoc
 
 pub host-is : (me : ℕ) (h : Host) → filled (hostPattern (h .standing)) 0 (numbersOf me h) ≡ hostLine me h

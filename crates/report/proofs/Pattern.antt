@@ -39,7 +39,8 @@ module _ (before text numbers : List ℕ) where
   starts h = record { inside = omega arith; enough = omega arith; rest = refl }
 
   -- `new` is put, and what is left is shorter by it
-  step : {out : List ℕ} {next used k : ℕ} (new : List ℕ) {next' : ℕ} {out' : List ℕ} (used' : ℕ) → Filling out next used k → Puts next out new next' out'
+  step : {out : List ℕ} {next used k : ℕ} (new : List ℕ) {next' : ℕ} {out' : List ℕ} (used' : ℕ) → Filling out next used k
+      → Puts next out new next' out'
       → (used + holes (drop k text) ≡ used' + holes (drop (k + 1) text))
       × (filled (drop k text) used numbers ≡ new ++ filled (drop (k + 1) text) used' numbers)
       → k < length text → Filling out' next' used' (k + 1)
@@ -54,7 +55,8 @@ module _ (before text numbers : List ℕ) where
     pub keeps : length out ≡ length before
     unfolding put
     keeps =
-        sym (length-sets out next (filled (drop k text) used numbers)) ∙ ap (λ z. length (z .1)) (f .rest) ∙ length-sets before 0 (filled text 0 numbers)
+        sym (length-sets out next (filled (drop k text) used numbers)) ∙ ap (λ z. length (z .1)) (f .rest)
+        ∙ length-sets before 0 (filled text 0 numbers)
 
     left-over : next + length (filled (drop k text) used numbers) ≡ 0 + length (filled text 0 numbers)
     unfolding put

@@ -25,10 +25,10 @@ whole at before new next after e =
     record { puts = e; ends = ap (λ z. z .0) e; keeps = ap (λ z. length (z .1)) e ∙ length-sets before at new }
 
 -- one part after another
-pub also : {at : ℕ} {before a : List ℕ} {next : ℕ} {mid b : List ℕ} {last : ℕ} {after : List ℕ} → Puts at before a next mid → Puts next mid b last after
-    → Puts at before (a ++ b) last after
+pub also : {at : ℕ} {before a : List ℕ} {next : ℕ} {mid b : List ℕ} {last : ℕ} {after : List ℕ} → Puts at before a next mid
+    → Puts next mid b last after → Puts at before (a ++ b) last after
 also {at} {before} {a} {b = b} p q = whole at before (a ++ b) _ _ (q .puts ∙ rw (p .puts) (put-put (at, before) a b))
 
 -- the same bytes, said in another way
 pub means : {at : ℕ} {before a : List ℕ} {next : ℕ} {after b : List ℕ} → Puts at before a next after → a ≡ b → Puts at before b next after
-means {at} {before} {next = next} {after} p e = rw e at p
+means p e = rw e at p

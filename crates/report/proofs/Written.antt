@@ -56,7 +56,8 @@ module _ (before : List ℕ) (me : ℕ) (h : Host) (w : World) (fine : short bef
       rw (fine, le-leb (w .n) me l) (ap (lent before) (goes-on (worldGuards w) ((5 when true) ∷ []) (thresholdsOf w) done e))
 
   -- past them all there is room for the line
-  pub host-clear : {s : Thresholds} → checking w ≡ accepted s → me < w .n → Clear (hostGuards before me h w) × (length (hostLine me h) ≤ length before)
+  pub host-clear : {s : Thresholds} → checking w ≡ accepted s → me < w .n
+      → Clear (hostGuards before me h w) × (length (hostLine me h) ≤ length before)
   unfolding checking
   host-clear e l =
       let ((n, (t, _)), _) = clear (worldGuards w) (thresholdsOf w) e in

@@ -13,7 +13,7 @@ use Rattle.host.specs.declared.Host.{Host}
 use Rattle.report.specs.Text.{text, decimal}
 use Rattle.report.specs.declared.Line.{Line}
 
--- ---- The four lines
+-- ---- The four lines, each with its newline
 
 -- "For a refused header or record: "refused C""
 unfoldable pub refusalLine : ℕ → List ℕ
@@ -54,7 +54,7 @@ short before = ltb (length before) 80
 abbrev pub roomGuards : List ℕ → List Guard
 roomGuards before = (13 when short before) ∷ []
 
--- 13 of the host's record too, then "2, then 3", then 5: a host number ≥ n
+-- the host line: 13 also for "a lent host record with a field outside its range ..", then "2, then 3", then 5: "host .. number ≥ n"
 abbrev pub hostGuards : List ℕ → ℕ → Host → World → List Guard
 hostGuards before me h w = (13 when short before || badHost h) ∷ worldGuards w ++ (5 when leb (w .n) me) ∷ []
 

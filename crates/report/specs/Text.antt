@@ -6,7 +6,7 @@ use mathlib.Core.Bool.{cond}
 use mathlib.Core.List.{List, [], _∷_, _++_}
 use lib.Dec.{ltb}
 
--- the bytes of a text, in ASCII
+-- the bytes of a text in ASCII: its characters' codes
 unfoldable pub text : String → List ℕ
 text none = []
 text (c then s) = code c ∷ text s

@@ -18,9 +18,6 @@ loop-holds c =
     let a = s .args in
     starts (a .out .now) (a .text .now) (a .t3) (s .pre .0)
 
-shared-slice-read-byte : tie.Need-shared-slice-read-byte Inv-loop μ-loop
-shared-slice-read-byte c = omega arith
-
 mul-field : tie.Need-mul-field Inv-loop μ-loop
 mul-field c =
     let b = c .before in
@@ -55,12 +52,6 @@ add-used c =
     let (l, _) = hole-fits (a .out .now) (a .text .now) (a .t3) (i .loop .inv) (s .pre .1) (b .before .before .loop-test .taken) (b .if1 .taken) in
     omega arith
 
-add-k : tie.Need-add-k Inv-loop μ-loop
-add-k c = omega arith
-
-loop-less : tie.Need-loop-less Inv-loop μ-loop
-loop-less c = omega arith
-
 loop-again : tie.Need-loop-again Inv-loop μ-loop
 loop-again c =
     let b = c .before .before .before .before in
@@ -84,12 +75,6 @@ add-next c =
     let l = byte-fits (a .out .now) (a .text .now) (a .t3) (i .loop .inv) (s .pre .1) (c .before .before .loop-test .taken) (c .if1 .left) in
     omega (arith, keeps (a .out .now) (a .text .now) (a .t3) (i .loop .inv))
 
-add-k-2 : tie.Need-add-k-2 Inv-loop μ-loop
-add-k-2 c = omega arith
-
-loop-less-2 : tie.Need-loop-less-2 Inv-loop μ-loop
-loop-less-2 c = omega arith
-
 loop-again-2 : tie.Need-loop-again-2 Inv-loop μ-loop
 loop-again-2 c =
     let i = c .before .before .before in
@@ -109,22 +94,5 @@ returns c =
 pub pattern-spec : {M : Type 1} → statement M
 pattern-spec =
     tie.close
-    (tie.spec
-    Inv-loop
-    μ-loop
-    loop-holds
-    shared-slice-read-byte
-    mul-field
-    array-read-field
-    field-requires
-    add-used
-    add-k
-    loop-less
-    loop-again
-    slice-write-out
-    add-next
-    add-k-2
-    loop-less-2
-    loop-again-2
-    same-length
-    returns)
+    (tie.spec Inv-loop μ-loop loop-holds (λ c. omega arith) mul-field array-read-field field-requires add-used (λ c. omega arith) (λ c. omega arith)
+    loop-again slice-write-out add-next (λ c. omega arith) (λ c. omega arith) loop-again-2 same-length returns)

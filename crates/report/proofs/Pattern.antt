@@ -13,11 +13,11 @@ use Rattle.report.specs.Parts.{isHole, orDash, holes, filled, put, Puts}
 use Rattle.report.proofs.Puts.{put-put, whole}
 
 module _ (before text numbers : List ℕ) where
-  -- what stands at a '#' or a '?' where so many numbers are used
+  -- what stands at a '#' or a '@' where so many numbers are used
   abbrev pub entry : ℕ → ℕ → List ℕ
-  entry k used = orDash (eqb (getD text k 0) 63) (getD numbers used 0)
+  entry k used = orDash (eqb (getD text k 0) 64) (getD numbers used 0)
 
-  -- at a '#' or a '?' a number or "-", then the rest
+  -- at a '#' or a '@' a number or "-", then the rest
   at-hole : (used k : ℕ) → k < length text → isHole (getD text k 0) ≡ true → (used + holes (drop k text) ≡ used + 1 + holes (drop (k + 1) text))
       × (filled (drop k text) used numbers ≡ entry k used ++ filled (drop (k + 1) text) (used + 1) numbers)
   unfolding filled
@@ -62,7 +62,7 @@ module _ (before text numbers : List ℕ) where
     unfolding put
     left-over = ap (λ z. z .0) (f .rest)
 
-    -- at a '#' or a '?' there is a number, and room for it
+    -- at a '#' or a '@' there is a number, and room for it
     pub hole-fits : length (filled text 0 numbers) ≤ length before → k < length text → isHole (getD text k 0) ≡ true
         → (used < 7) × (next + length (entry k used) ≤ length out)
     hole-fits r l e =

@@ -12,10 +12,10 @@ use Rattle.report.specs.Text.{text, decimal}
 use Rattle.report.specs.Lines.{roomGuards, writing, lineSays}
 use Rattle.report.specs.declared.Line.{Line}
 
--- ---- Patterns: a text in which a '#' (35) stands for a number, and a '?' (63) for a number or, where it is 2, for "-"
+-- ---- Patterns: a text in which a '#' (35) stands for a number, and a '@' (64) for a number or, where it is 2, for "-"
 
 abbrev pub isHole : ℕ → Bool
-isHole b = eqb b 35 || eqb b 63
+isHole b = eqb b 35 || eqb b 64
 
 abbrev pub orDash : Bool → ℕ → List ℕ
 orDash dash n = cond (dash && eqb n 2) (text "-") (decimal n)
@@ -30,7 +30,7 @@ holes (b ∷ rest) = takes b + holes rest
 
 -- a pattern with the numbers in it, of which so many are used already
 abbrev pub shown : ℕ → ℕ → List ℕ
-shown b n = cond (isHole b) (orDash (eqb b 63) n) (b ∷ [])
+shown b n = cond (isHole b) (orDash (eqb b 64) n) (b ∷ [])
 
 unfoldable pub filled : List ℕ → ℕ → List ℕ → List ℕ
 filled [] used numbers = []
@@ -52,9 +52,9 @@ numbersOf me h = me ∷ h .round ∷ h .phase ∷ h .stage ∷ h .est ∷ h .dec
 unfoldable pub hostPattern : ℕ → List ℕ
 hostPattern standing =
     cond (eqb standing 3) (text "host # lying\n")
-    (cond (eqb standing 1) (text "host # finished round # phase # stage # est # decided ? sent #\n")
-    (cond (eqb standing 2) (text "host # broken round # phase # stage # est # decided ? sent #\n")
-    (text "host # honest round # phase # stage # est # decided ? sent #\n")))
+    (cond (eqb standing 1) (text "host # finished round # phase # stage # est # decided @ sent #\n")
+    (cond (eqb standing 2) (text "host # broken round # phase # stage # est # decided @ sent #\n")
+    (text "host # honest round # phase # stage # est # decided @ sent #\n")))
 
 -- ---- Putting
 

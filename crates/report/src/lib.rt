@@ -99,20 +99,20 @@ fn put_host(out: &mut [u8], standing: u8, numbers: [u32; 7]) -> usize
     if standing == 1 {
         return put::pattern(
             out,
-            b"host # finished round # phase # stage # est # decided ? sent #\n",
+            b"host # finished round # phase # stage # est # decided @ sent #\n",
             numbers,
         );
     }
     if standing == 2 {
         return put::pattern(
             out,
-            b"host # broken round # phase # stage # est # decided ? sent #\n",
+            b"host # broken round # phase # stage # est # decided @ sent #\n",
             numbers,
         );
     }
     put::pattern(
         out,
-        b"host # honest round # phase # stage # est # decided ? sent #\n",
+        b"host # honest round # phase # stage # est # decided @ sent #\n",
         numbers,
     )
 }

@@ -40,7 +40,7 @@ fn field(out: &mut [u8], at: usize, dash: bool, n: u32) -> usize
     number(out, at, n)
 }
 
-// A text in which each '#' stands for the next of the numbers, and a '?' for the next of them or for
+// A text in which each '#' stands for the next of the numbers, and a '@' for the next of them or for
 // "-". It goes to the start.
 pub(crate) fn pattern(out: &mut [u8], text: &[u8], numbers: [u32; 7]) -> usize
     requires { ⌜ holes (now text) ≤ 7 ⌝ }
@@ -51,8 +51,8 @@ pub(crate) fn pattern(out: &mut [u8], text: &[u8], numbers: [u32; 7]) -> usize
     let mut used = 0;
     for k in 0..text.len() {
         let byte = text[k];
-        if (byte == b'#') | (byte == b'?') {
-            next = field(out, next, byte == b'?', numbers[used]);
+        if (byte == b'#') | (byte == b'@') {
+            next = field(out, next, byte == b'@', numbers[used]);
             used += 1;
             continue;
         }

@@ -1,16 +1,19 @@
--- Who is in a set to which a host was added, in a union, in the empty set and in a set that is not empty, over any width. Assumes nothing.
+-- Who is in a set to which a host was added, in a union, in the empty set and in a set that is not empty, and how many are in a set of hosts
+-- below n, over any width. Assumes nothing.
 use Prim.Native.Nat.{ℕ, zero, suc, _+_, _*_, _/_, _%_, _^_, _<_, max}
 use mathlib.Core.Path.{_≡_, refl, sym, ap, _∙_}
 use mathlib.Core.Bool.{Bool, true, false, _||_}
 use native.Mathlib.Nat.{zero-div, one-mul, pow-suc}
+use native.Mathlib.Decide.{ℕ-discrete}
 use native.Mathlib.Omega.{arith}
 use lib.Bits.{bitOr, or-step, or-shr}
 use lib.Dec.{lit<, eqb}
 use lib.Pow.{shl-exact}
 use borrow.Author.Tests.{eqb-false}
 use Rattle.answer.proofs.Tests.{or-true, or-false}
-use Rattle.quorum.specs.Sets.{member, add, union}
-use Rattle.quorum.proofs.Members.{member-suc}
+use Rattle.quorum.specs.Count.{count}
+use Rattle.quorum.specs.Sets.{member, size, add, union}
+use Rattle.quorum.proofs.Members.{member-suc, size-counts}
 
 digit : (x y a b : ℕ) → x ≡ y * 2 + max (a % 2) (b % 2) → x % 2 ≡ max (a % 2) (b % 2)
 digit x y a b e = omega arith
@@ -86,6 +89,20 @@ below-pow (suc w) = rw pow-suc (omega (arith, below-pow w))
 
 pub some-member : (w : ℕ) → (w ≡ 0 → ⊥) → (j : ℕ) × (member w j ≡ true)
 some-member w h = some-below w w (below-pow w) h
+
+no-word : (w : ℕ) → ((j : ℕ) → member w j ≡ true → j < 0) → Dec (w ≡ 0) → w < 1
+no-word w f (yes e) = omega arith
+no-word w f (no h) = let (j, e) = some-member w h in absurd (omega (arith, f j e))
+
+members-below : (n w : ℕ) → ((j : ℕ) → member w j ≡ true → j < n) → w < 2 ^ n
+members-below zero w f = no-word w f (ℕ-discrete w 0)
+members-below (suc n) w f =
+    let half : w / 2 < 2 ^ n = members-below n (w / 2) (λ j e. let l = f (suc j) (sym (member-suc w j) ∙ e) in omega arith) in
+    rw pow-suc (omega arith)
+
+-- the size of a set of hosts below n is the number of its members among them
+pub members-count : (n w : ℕ) → ((j : ℕ) → member w j ≡ true → j < n) → size w ≡ count n (member w)
+members-count n w f = size-counts n w (members-below n w f)
 
 -- `w | 1 << j` in a machine's word of `width` bits
 pub or-shl : (width j : ℕ) → j < width → (w : ℕ) → bitOr w (1 * 2 ^ j % 2 ^ width) ≡ add w j

@@ -1,8 +1,9 @@
 -- One event of a run: refused, it leaves the table and all but the counts; accepted, it is a step on the table. Assumes nothing.
-use Prim.Native.Nat.{ℕ}
+use Prim.Native.Nat.{ℕ, _<_}
 use mathlib.Core.Path.{_≡_, refl, sym, ap}
 use mathlib.Core.Bool.{Bool, true, false, cond}
 use mathlib.Core.List.{List}
+use native.Mathlib.Omega.{arith}
 use lib.Dec.{ltb}
 use lib.ListN.{length}
 use Rattle.answer.specs.Answer.{Answer, refused, accepted}
@@ -19,6 +20,10 @@ use Rattle.run.specs.declared.Run.{Run}
 -- the event that a whole piece says
 abbrev eventFrom : List ℕ → Event
 eventFrom piece = eventOf (threeAt piece 0)
+
+-- its host is one of 32: it has five bits
+pub host-32 : (piece : List ℕ) → hostIn piece < 32
+host-32 piece = omega arith
 
 module _ (run : Run) (table piece : List ℕ) where
   -- that event as a step of host i on the table

@@ -1,13 +1,13 @@
 -- The hosts' records over a run: the sent count is that of the frames broadcast, and a liar's record never changes. Assumes nothing.
 use Prim.Native.Nat.{ℕ, _+_, _<_}
-use mathlib.Core.Path.{_≡_, refl, sym, subst, _∙_}
+use mathlib.Core.Path.{_≡_, refl, sym, _∙_}
 use mathlib.Core.Bool.{Bool, true, false, cond}
 use mathlib.Core.Logic.{⊎-elim}
 use mathlib.Core.List.{List, [], _∷_, _++_}
 use native.Mathlib.Decide.{decLt, ℕ-discrete}
 use native.Mathlib.Omega.{arith}
 use borrow.Author.Tests.{eq-eqb, ne-eqb}
-use lib.ListN.{length, getD, set, length-set, length-append}
+use lib.ListN.{length, length-set, length-append}
 use lib.Seq.{set-out, getD-set-same, getD-set-other}
 use Rattle.answer.specs.Answer.{Answer, refused, accepted}
 use Rattle.frame.specs.declared.Frame.{Frame}
@@ -28,22 +28,26 @@ use Rattle.run.proofs.Runs.{along}
 
 -- ---- One record, one event
 
--- a record of a list after one of them is written: the same, or what was written
-set-host : (P : Host → Type 0) (hosts : List Host) (g : Host → Host) (n i : ℕ)
-    → ((n ≡ i → i < length hosts → ⊥) → P (getD hosts i noHost)) → (n ≡ i → P (g (getD hosts i noHost)))
-    → P (getD (set hosts n (g (getD hosts n noHost))) i noHost)
-set-host P hosts g n i same new = go (ℕ-discrete i n) (decLt n (length hosts))
+-- an event leaves the records of the other hosts
+pub event-others : (run : Run) (table piece : List ℕ) (j : ℕ) → (j ≡ hostIn piece → ⊥) → hostAt (runAfter run table piece) j ≡ hostAt run j
+event-others run table piece j d = go (happens run table piece .0)
   where
-    go : Dec (i ≡ n) → Dec (n < length hosts) → P (getD (set hosts n (g (getD hosts n noHost))) i noHost)
-    go (no d) l = rw (getD-set-other hosts n i (g (getD hosts n noHost)) noHost d) (same (λ q _. d (sym q)))
-    go (yes q) (yes l) = rw (q, getD-set-same hosts n (g (getD hosts n noHost)) noHost l) (rw q at (new (sym q)))
-    go (yes q) (no m) = rw (set-out hosts n (g (getD hosts n noHost)) (omega arith)) (same (λ _ l. m (rw q at l)))
+    go : (a : Answer Turn) → hostAt (settled run (hostIn piece) a) j ≡ hostAt run j
+    go (refused k) = refl
+    go (accepted a) = getD-set-other (run .hosts) (hostIn piece) j (recordAfter (hostAt run (hostIn piece)) a) noHost d
+
+-- and that of its own host is what it answered, where it is accepted
+pub event-own : (run : Run) (table piece : List ℕ) {a : Turn} {t : List ℕ} → hostIn piece < length (run .hosts)
+    → happens run table piece ≡ (accepted a, t)
+    → hostAt (runAfter run table piece) (hostIn piece) ≡ recordAfter (hostAt run (hostIn piece)) a
+event-own run table piece {a} l e = rw e (getD-set-same (run .hosts) (hostIn piece) (recordAfter (hostAt run (hostIn piece)) a) noHost l)
 
 -- an event of another host broadcasts no frame of this one
-frames-other : (i : ℕ) (piece : List ℕ) (a : Turn) → (hostIn piece ≡ i → ⊥) → framesOf i piece (accepted a) ≡ []
-frames-other i piece idle d = refl
-frames-other i piece (quiet g) d = refl
-frames-other i piece (broadcast g f) d = rw (ne-eqb (hostIn piece) i d) refl
+frames-other : (i : ℕ) (piece : List ℕ) (a : Answer Turn) → (hostIn piece ≡ i → ⊥) → framesOf i piece a ≡ []
+frames-other i piece (refused k) d = refl
+frames-other i piece (accepted idle) d = refl
+frames-other i piece (accepted (quiet g)) d = refl
+frames-other i piece (accepted (broadcast g f)) d = rw (ne-eqb (hostIn piece) i d) refl
 
 -- the record of host i after an event: the same, and it broadcast no frame, or what its step answered
 by-record : (P : Host → Type 0) (run : Run) (table piece : List ℕ) (i : ℕ)
@@ -51,13 +55,16 @@ by-record : (P : Host → Type 0) (run : Run) (table piece : List ℕ) (i : ℕ)
     → ((a : Turn) (t : List ℕ) → hostIn piece ≡ i → happens run table piece ≡ (accepted a, t) → stepOf run table piece i ≡ (accepted a, t)
     → P (recordAfter (hostAt run i) a))
     → P (hostAt (runAfter run table piece) i)
-by-record P run table piece i same new = go (happens run table piece) refl
+by-record P run table piece i same new = go (ℕ-discrete i (hostIn piece)) (decLt i (length (run .hosts))) (happens run table piece) refl
   where
-    go : (x : Answer Turn × List ℕ) → happens run table piece ≡ x → P (hostAt (settled run (hostIn piece) (x .0)) i)
-    go (refused k, t) e = same (λ _. rw e refl)
-    go (accepted a, t) e =
-        set-host P (run .hosts) (λ h. recordAfter h a) (hostIn piece) i (λ d. same (λ l. rw e (frames-other i piece a (λ q. d q l))))
-        (λ q. new a t q e (subst (λ (n : ℕ). stepOf run table piece n ≡ (accepted a, t)) q (event-step run table piece e)))
+    go : Dec (i ≡ hostIn piece) → Dec (i < length (run .hosts)) → (x : Answer Turn × List ℕ) → happens run table piece ≡ x
+        → P (hostAt (runAfter run table piece) i)
+    go (no d) l x e =
+        rw (event-others run table piece i d) (same (λ _. frames-other i piece (happens run table piece .0) (λ q. d (sym q))))
+    go (yes q) l (refused k, t) e = rw e (same (λ _. rw e refl))
+    go (yes q) (no m) (accepted a, t) e = rw (e, set-out (run .hosts) (hostIn piece) _ (omega arith)) (same (λ l. absurd (m l)))
+    go (yes q) (yes l) (accepted a, t) e =
+        rw (q, event-own run table piece (rw q at l) e) (rw q at (new a t (sym q) e (rw q (event-step run table piece e))))
 
 module _ (table : List ℕ) (h s : Host) (w : World) (e : Event) where
   -- the record after a step is in range where that before it was

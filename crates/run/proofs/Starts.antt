@@ -1,5 +1,6 @@
--- What a started run is: 32 records, each in range, none of them refused by 13. Assumes nothing.
-use Prim.Native.Nat.{ℕ, zero, suc, _<_}
+-- What a started run is: a world of a vote and 32 records, those of its hosts as the file says, each in range, none of them refused by 13.
+-- Assumes nothing.
+use Prim.Native.Nat.{ℕ, zero, suc, _≤_, _<_}
 use mathlib.Core.Path.{_≡_, refl, _∙_}
 use mathlib.Core.Bool.{Bool, true, false, cond}
 use mathlib.Core.List.{List}
@@ -11,6 +12,7 @@ use lib.ListN.{length, getD, set, length-set, length-replicate, getD-replicate}
 use lib.Seq.{getD-set-same, getD-set-other}
 use Rattle.answer.specs.Answer.{accepted}
 use Rattle.answer.proofs.Guards.{clear}
+use Rattle.quorum.proofs.Reached.{Sized, sized}
 use Rattle.host.specs.Record.{Valid}
 use Rattle.host.specs.declared.Host.{Host}
 use Rattle.file.specs.Layouts.{honest, threeAt, firstHost}
@@ -59,16 +61,43 @@ enrolled-all P first bytes (suc k) i l = go (ℕ-discrete i k) (enrolled-all P f
     go (no d) before = rw (getD-set-other (enrolled bytes k) k i new noHost d) before
     go (yes q) before = rw (q, getD-set-same (enrolled bytes k) k new noHost (rw (q, ← enrolled-length bytes k) at l)) (first (threeAt bytes (recordPlace k)))
 
+-- and each read record stands at its host's place
+enrolled-record : (bytes : List ℕ) (k i : ℕ) → k ≤ 32 → i < k → getD (enrolled bytes k) i noHost ≡ firstHost (threeAt bytes (recordPlace i))
+unfolding enrolled
+enrolled-record bytes zero i m l = absurd (omega arith)
+enrolled-record bytes (suc k) i m l = go (ℕ-discrete i k) (enrolled-record bytes k i (omega arith))
+  where
+    new : Host
+    new = firstHost (threeAt bytes (recordPlace k))
+
+    go : Dec (i ≡ k) → (i < k → getD (enrolled bytes k) i noHost ≡ firstHost (threeAt bytes (recordPlace i)))
+        → getD (set (enrolled bytes k) k new) i noHost ≡ firstHost (threeAt bytes (recordPlace i))
+    go (no d) before = getD-set-other (enrolled bytes k) k i new noHost d ∙ before (omega arith)
+    go (yes q) before = rw q (getD-set-same (enrolled bytes k) k new noHost (rw (enrolled-length bytes k) m))
+
 module _ (bytes : List ℕ) {run : Run} (started : starting bytes ≡ accepted run) where
   is-first : run ≡ firstRun bytes (worldIn bytes)
   unfolding starting
   is-first = clear (startGuards bytes) (firstRun bytes (worldIn bytes)) started .1
 
-  started-length : length (run .hosts) ≡ 32
+  -- its world is one that 2 and 3 let pass
+  pub started-sized : Sized (run .world)
+  unfolding starting
+  started-sized =
+      let ((_, (n, (t, _))), _) = clear (startGuards bytes) (firstRun bytes (worldIn bytes)) started in
+      rw is-first (sized (worldIn bytes) n t)
+
+  -- there are 32 records
+  pub started-length : length (run .hosts) ≡ 32
   started-length = rw is-first (enrolled-length bytes (worldIn bytes .n))
 
-  started-all : (P : Host → Type 0) → ((number : ℕ) → P (firstHost number)) → (i : ℕ) → i < 32 → P (hostAt run i)
+  -- what every first record has, each of them has
+  pub started-all : (P : Host → Type 0) → ((number : ℕ) → P (firstHost number)) → (i : ℕ) → i < 32 → P (hostAt run i)
   started-all P first i l = rw is-first (enrolled-all P first bytes (worldIn bytes .n) i l)
+
+  -- that of each host of the world is what its three bytes say
+  pub started-record : (i : ℕ) → i < run .world .n → hostAt run i ≡ firstHost (threeAt bytes (recordPlace i))
+  started-record i l = rw is-first (enrolled-record bytes (worldIn bytes .n) i (rw is-first at (started-sized .most)) (rw is-first at l))
 
   -- after any number of events each record is in range: no event is refused by 13 for a record
   pub run-valid : (table : List ℕ) (ps : List (List ℕ)) (i : ℕ) → i < 32 → Valid (hostAt (after run table ps .0) i)

@@ -8,20 +8,20 @@ use native.Mathlib.Decide.{decLt}
 use native.Mathlib.Omega.{arith}
 use lib.ListN.{length, take, drop, length-append, length-take, length-drop, take-append-drop}
 use lib.Seq.{drop-drop, take-at, drop-at, take-append-le, drop-append-le, drop-append-add}
-use Rattle.answer.specs.Answer.{Answer, refused, accepted, past}
-use Rattle.answer.proofs.Guards.{not-both, past-clear, lent-accepted}
+use Rattle.answer.specs.Answer.{Answer, refused, accepted}
+use Rattle.answer.proofs.Guards.{not-both}
 use Rattle.frame.specs.Frame.{unpacking}
 use Rattle.frame.specs.declared.Frame.{Frame}
 use Rattle.quorum.specs.declared.World.{World}
 use Rattle.host.specs.Record.{Valid}
 use Rattle.host.specs.declared.Host.{Host}
-use Rattle.delivery.specs.Delivery.{receiverGuards, deliveringWord, afterUnpacking}
-use Rattle.delivery.proofs.Changes.{word-refused, delivery-one-bit}
+use Rattle.delivery.specs.Delivery.{deliveringWord, asking}
+use Rattle.delivery.proofs.Changes.{word-refused, word-delivered, delivery-one-bit}
 use Rattle.turn.specs.Applying.{Turn, idle, quiet, broadcast}
 use Rattle.turn.specs.Turning.{turning}
 use Rattle.turn.proofs.Turns.{turn-refused, turn-marks, turn-sent, quiet-sent, turn-valid, idle-frame}
 use Rattle.file.specs.declared.Event.{Event}
-use Rattle.table.specs.Table.{partOf, withPart, onPart, said, passed, passedOn, deliveringAt, turningAt}
+use Rattle.table.specs.Table.{partOf, withPart, onPart, agreed, said, passed, passedOn, deliveringAt, turningAt}
 use Rattle.table.specs.Stepping.{delivers, readying, acting, goingOn, stepping}
 use Rattle.table.proofs.Passing.{step-in}
 
@@ -94,15 +94,18 @@ module _ (table : List ℕ) (i : ℕ) (here : i < 32) (enough : 14336 ≤ length
 -- a delivery leaves as many words
 word-length : (words : List ℕ) (h : Host) (w : World) (word : ℕ) (b : Bool) (a : Answer Unit) {after : List ℕ}
     → deliveringWord words h w word b ≡ (a, after) → length after ≡ length words
-unfolding deliveringWord
 word-length words h w word b (refused k) e = ap length (word-refused words h w word b e)
-word-length words h w word b (accepted u) {after} e = go (unpacking word) e
-  where
-    go : (f : Answer Frame) → afterUnpacking words h w b f ≡ (accepted u, after) → length after ≡ length words
-    go (refused k) r =
-        let gs = receiverGuards (length words) h w in
-        absurd (not-both (past-clear gs (refused k) (lent-accepted words after (past gs (refused k)) r) .1) refl)
-    go (accepted f) r = delivery-one-bit words h w f b r .0
+word-length words h w word b (accepted u) e = let (f, _, r) = word-delivered words h w word b e in delivery-one-bit words h w f b r .0
+
+agreed-is : (a : Answer Bool) → agreed a ≡ true → a ≡ accepted true
+agreed-is (accepted b) e = rw e
+agreed-is (refused k) e = absurd (true≢false (sym e))
+
+-- a frame counts as said where its sender's own record and words agree to it
+pub said-asked : (table : List ℕ) (s : Host) (w : World) (word : ℕ) (f : Frame) → unpacking word ≡ accepted f → said table s w word ≡ true
+    → asking (partOf table (f .sender)) s w f ≡ accepted true
+unfolding said
+said-asked table s w word f q e = agreed-is (asking (partOf table (f .sender)) s w f) (rw q at e)
 
 -- a step is refused where its delivery is
 passed-refused : (a : Answer Unit) {k : ℕ} → passed a ≡ refused k → a ≡ refused k

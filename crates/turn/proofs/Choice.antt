@@ -1,5 +1,5 @@
 -- Which move a turn chooses: that none is skipped, what each one chosen tells, and when there is none. Assumes nothing.
-use Prim.Native.Nat.{ℕ, _+_, _*_, _≤_, _<_}
+use Prim.Native.Nat.{ℕ, _+_, _≤_, _<_}
 use mathlib.Core.Path.{_≡_, refl, sym, ap}
 use mathlib.Core.Bool.{Bool, true, false, cond, _&&_, not, true≢false}
 use mathlib.Core.List.{List}
@@ -7,10 +7,7 @@ use lib.Dec.{ltb, leb}
 use borrow.Author.Tests.{ltb-true, leb-true, leb-false, lt-leb, not-true, not-false}
 use Rattle.answer.proofs.Tests.{both, either}
 use Rattle.quorum.specs.Sets.{member, size}
-use Rattle.quorum.specs.World.{thresholdsOf}
-use Rattle.quorum.specs.declared.World.{World}
 use Rattle.quorum.specs.declared.Thresholds.{Thresholds}
-use Rattle.quorum.proofs.Reached.{echo-over, admit-over, view-over}
 use Rattle.host.specs.First.{first}
 use Rattle.host.specs.Words.{values, VAL, AUX, marks, hasSent, admitted, begun}
 use Rattle.host.specs.Record.{finished}
@@ -138,20 +135,18 @@ admit-parts : (words : List ℕ) (h : Host) (s : Thresholds) (i v : ℕ) → cho
 admit-parts words h s i v e =
     due-parts words (s .admit) 3 i v (admit-found words h s i v (chosen-first words h s (Move.Admit i v) e) .2)
 
--- a host echoes a value with more than t senders
-pub echo-witnesses : (words : List ℕ) (h : Host) (w : World) (i v : ℕ) → chosen words h (thresholdsOf w) ≡ Move.Echo i v
-    → w .t < witnesses words i v
-echo-witnesses words h w i v e = echo-over w (witnesses words i v) (echo-parts words h (thresholdsOf w) i v e .1)
+-- a host echoes a value with as many senders as an echo needs
+pub echo-enough : (words : List ℕ) (h : Host) (s : Thresholds) (i v : ℕ) → chosen words h s ≡ Move.Echo i v → s .echo ≤ witnesses words i v
+echo-enough words h s i v e = echo-parts words h s i v e .1
 
 -- a host echoes a value of the instance that it has not broadcast there
 pub echo-new : (words : List ℕ) (h : Host) (s : Thresholds) (i v : ℕ) → chosen words h s ≡ Move.Echo i v
     → (v < values i) × (hasSent words VAL i v ≡ false)
 echo-new words h s i v e = let (l, _, n) = echo-parts words h s i v e in (l, n)
 
--- a host admits a value with more than 2t senders
-pub admit-witnesses : (words : List ℕ) (h : Host) (w : World) (i v : ℕ) → chosen words h (thresholdsOf w) ≡ Move.Admit i v
-    → 2 * w .t < witnesses words i v
-admit-witnesses words h w i v e = admit-over w (witnesses words i v) (admit-parts words h (thresholdsOf w) i v e .1)
+-- a host admits a value with as many senders as an admission needs
+pub admit-enough : (words : List ℕ) (h : Host) (s : Thresholds) (i v : ℕ) → chosen words h s ≡ Move.Admit i v → s .admit ≤ witnesses words i v
+admit-enough words h s i v e = admit-parts words h s i v e .1
 
 -- a host admits a value of the instance that is not admitted there
 pub admit-new : (words : List ℕ) (h : Host) (s : Thresholds) (i v : ℕ) → chosen words h s ≡ Move.Admit i v
@@ -171,15 +166,35 @@ searched (Move.Aux i v) = false
 searched (Move.View view) = false
 
 proceeded : (words : List ℕ) (h : Host) (s : Thresholds) (m : Move) → searched m ≡ false → Chosen words h s m
-    → (NoneDue (echoDue words s)) × (NoneDue (admitDue words s)) × (Gives words h (s .view) m)
+    → (NoneDue (echoDue words s)) × (NoneDue (admitDue words s)) × (proceeding words h (s .view) (current h) ≡ m)
 proceeded words h s m r (echoes i v e f) = absurd (true≢false (cc (ap searched e)))
 proceeded words h s m r (admits i v e n f) = absurd (true≢false (cc (ap searched e)))
-proceeded words h s m r (proceeds n o e) = (n, o, no-search words h (s .view) m e)
+proceeded words h s m r (proceeds n o e) = (n, o, e)
 
 -- a move that is neither echo nor admit, made where none of these was due
 chosen-gives : (words : List ℕ) (h : Host) (s : Thresholds) (m : Move) → searched m ≡ false → chosen words h s ≡ m
     → (NoneDue (echoDue words s)) × (NoneDue (admitDue words s)) × (Gives words h (s .view) m)
-chosen-gives words h s m r e = proceeded words h s m r (chosen-first words h s m e)
+chosen-gives words h s m r e =
+    let (n, o, p) = proceeded words h s m r (chosen-first words h s m e) in
+    (n, o, no-search words h (s .view) m p)
+
+not-idle : (b : Bool) (m n : Move) → cond b Move.Idle n ≡ m → (m ≡ Move.Idle → ⊥) → b ≡ false
+not-idle true m n e d = absurd (d (sym e))
+not-idle false m n e d = refl
+
+-- a finished host "proceeds no more": it makes no such move
+chosen-voting : (words : List ℕ) (h : Host) (s : Thresholds) (m : Move) → searched m ≡ false → (m ≡ Move.Idle → ⊥) → chosen words h s ≡ m
+    → finished h ≡ false
+unfolding proceeding
+chosen-voting words h s m r d e = not-idle (finished h) m _ (proceeded words h s m r (chosen-first words h s m e) .2) d
+
+-- so a host that begins with a VAL votes still
+pub begin-voting : (words : List ℕ) (h : Host) (s : Thresholds) (i v : ℕ) → chosen words h s ≡ Move.Begin i v → finished h ≡ false
+begin-voting words h s i v = chosen-voting words h s (Move.Begin i v) refl (λ q. true≢false (cc))
+
+-- and so does one that takes a view
+pub view-voting : (words : List ℕ) (h : Host) (s : Thresholds) (view : ℕ) → chosen words h s ≡ Move.View view → finished h ≡ false
+view-voting words h s view = chosen-voting words h s (Move.View view) refl (λ q. true≢false (cc))
 
 -- a host that begins with a VAL: of its own value, in its current instance, where it has not begun nor broadcast it
 pub begin-new : (words : List ℕ) (h : Host) (s : Thresholds) (i v : ℕ) → chosen words h s ≡ Move.Begin i v
@@ -205,12 +220,10 @@ nowhere Place.Nowhere e = refl
 pub aux-none : (words : List ℕ) (i : ℕ) → auxSent words i ≡ false → (v : ℕ) → v < values i → hasSent words AUX i v ≡ false
 aux-none words i e = first-nowhere (hasSent words AUX i) (values i) (nowhere (first (hasSent words AUX i) (values i)) e)
 
--- a host that takes a view has n−t senders for it
-pub view-enough : (words : List ℕ) (h : Host) (w : World) (view : ℕ) → chosen words h (thresholdsOf w) ≡ Move.View view
-    → w .n ≤ w .t + size (viewers words (current h))
-view-enough words h w view e =
-    let (_, _, l, _) = chosen-gives words h (thresholdsOf w) (Move.View view) refl e .2 in
-    view-over w (size (viewers words (current h))) l
+-- a host that takes a view has as many senders for it as a view needs
+pub view-enough : (words : List ℕ) (h : Host) (s : Thresholds) (view : ℕ) → chosen words h s ≡ Move.View view
+    → s .view ≤ size (viewers words (current h))
+view-enough words h s view e = let (_, _, l, _) = chosen-gives words h s (Move.View view) refl e .2 in l
 
 -- the view that it takes is of what it heard in its current instance
 pub view-is : (words : List ℕ) (h : Host) (s : Thresholds) (view : ℕ) → chosen words h s ≡ Move.View view

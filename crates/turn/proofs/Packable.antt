@@ -46,7 +46,7 @@ packs kind i v me a l c m =
     passes (packGuards f) (wordOf f) (round, (value, (named, (le-ltb 31 me (omega arith), tt))))
 
 -- the own value is one of the current instance
-own-low : (h : Host) → Valid h → h .own < values (current h)
+pub own-low : (h : Host) → Valid h → h .own < values (current h)
 own-low h d = go (ℕ-discrete (h .stage) 0)
   where
     go : Dec (h .stage ≡ 0) → h .own < values (current h)

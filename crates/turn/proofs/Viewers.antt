@@ -1,5 +1,5 @@
 -- Whose values a view holds: the senders whose recorded AUX value is admitted, and the values of all of them. Assumes nothing.
-use Prim.Native.Nat.{ℕ, zero, suc, _+_, _<_}
+use Prim.Native.Nat.{ℕ, zero, suc, _+_, _≤_, _<_}
 use mathlib.Core.Path.{_≡_, refl, sym, _∙_}
 use mathlib.Core.Bool.{Bool, true, false, cond, _&&_, _||_, not, true≢false}
 use mathlib.Core.List.{List}
@@ -85,6 +85,15 @@ view-bit f zero l = view-word (eqb (f 0) 0) (eqb (f 1) 0) (eqb (f 2) 0) .0
 view-bit f (suc zero) l = view-word (eqb (f 0) 0) (eqb (f 1) 0) (eqb (f 2) 0) .1
 view-bit f (suc (suc zero)) l = view-word (eqb (f 0) 0) (eqb (f 1) 0) (eqb (f 2) 0) .2
 view-bit f (suc (suc (suc v))) l = absurd (omega arith)
+
+choice-low : (b : Bool) (k : ℕ) → cond b 0 k ≤ k
+choice-low true k = omega arith
+choice-low false k = omega arith
+
+-- a view is a set of the three values
+pub view-small : (a b c : ℕ) → viewOf a b c < 8
+unfolding viewOf
+view-small a b c = omega (arith, choice-low (eqb a 0) 1, choice-low (eqb b 0) 2, choice-low (eqb c 0) 4)
 
 -- a value that the view holds was heard of someone
 pub view-values : (words : List ℕ) (i v : ℕ) → v < 3 → member (viewOf (heard words i 0) (heard words i 1) (heard words i 2)) v ≡ true

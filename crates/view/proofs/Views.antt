@@ -1,10 +1,10 @@
 -- What a view makes of a host's record: document 01's "After the view", each of its sentences. Assumes nothing.
-use Prim.Native.Nat.{ℕ, _+_, _<_}
+use Prim.Native.Nat.{ℕ, _+_, _*_, _/_, _%_, _^_, _≤_, _<_}
 use mathlib.Core.Path.{_≡_, refl, sym, _∙_}
 use mathlib.Core.Bool.{Bool, true, false, cond, _&&_}
 use native.Mathlib.Omega.{arith}
 use lib.Dec.{leb, eqb}
-use borrow.Author.Tests.{leb-false, eqb-true, eqb-false, eq-eqb, ne-eqb}
+use borrow.Author.Tests.{leb-false, lt-leb, le-leb, eqb-true, eqb-false, eq-eqb, ne-eqb}
 use Rattle.answer.proofs.Tests.{both, either}
 use Rattle.quorum.specs.Sets.{member}
 use Rattle.host.specs.Record.{coin, moved, stood, Valid}
@@ -25,10 +25,44 @@ by-only : (P : ℕ → ℕ → Type 0) (view : ℕ) → P 1 0 → P 2 1 → ((vi
 unfolding onlyOf
 by-only P view = only-go P view (eqb view 1) (eqb view 2) refl refl
 
--- a view whose one value is 0, and one whose one value is 1
-pub only-single : (view : ℕ) → (onlyOf view ≡ 0 → view ≡ 1) × (onlyOf view ≡ 1 → view ≡ 2)
-only-single view =
-    by-only (λ v o. (o ≡ 0 → v ≡ 1) × (o ≡ 1 → v ≡ 2)) view (omega arith) (omega arith) (λ p q. omega arith)
+-- a view whose one value is 0: it holds 0 alone
+pub only-zero : (view : ℕ) → onlyOf view ≡ 0 → (member view 0 ≡ true) × (member view 1 ≡ false) × (member view 2 ≡ false)
+unfolding member
+only-zero view =
+    by-only (λ v o. o ≡ 0 → (member v 0 ≡ true) × (member v 1 ≡ false) × (member v 2 ≡ false)) view
+    (λ e. (refl, refl, refl)) (λ e. absurd (omega arith)) (λ p q e. absurd (omega arith))
+
+-- one whose one value is 1
+pub only-one : (view : ℕ) → onlyOf view ≡ 1 → (member view 0 ≡ false) × (member view 1 ≡ true) × (member view 2 ≡ false)
+unfolding member
+only-one view =
+    by-only (λ v o. o ≡ 1 → (member v 0 ≡ false) × (member v 1 ≡ true) × (member v 2 ≡ false)) view
+    (λ e. absurd (omega arith)) (λ e. (refl, refl, refl)) (λ p q e. absurd (omega arith))
+
+not-single : (view : ℕ) → onlyOf view ≡ 2 → (view ≡ 1 → ⊥) × (view ≡ 2 → ⊥)
+not-single view =
+    by-only (λ v o. o ≡ 2 → (v ≡ 1 → ⊥) × (v ≡ 2 → ⊥)) view (λ e. absurd (omega arith)) (λ e. absurd (omega arith)) (λ p q e. (p, q))
+
+is-in : (view v : ℕ) → member view v ≡ true → view / 2 ^ v % 2 ≡ 1
+unfolding member
+is-in view v = eqb-true (view / 2 ^ v % 2) 1
+
+is-out : (view v : ℕ) → member view v ≡ false → view / 2 ^ v % 2 ≡ 0
+unfolding member
+is-out view v e = let n = eqb-false (view / 2 ^ v % 2) 1 e in omega arith
+
+three-bits : (view x y z : ℕ) → view < 8 → view / 1 % 2 ≡ x → view / 2 % 2 ≡ y → view / 4 % 2 ≡ z → view ≡ x + 2 * y + 4 * z
+three-bits view x y z l a b c = omega arith
+
+-- any other view of the three values holds neither 0 alone nor 1 alone
+pub only-neither : (view : ℕ) → view < 8 → onlyOf view ≡ 2
+    → (member view 0 ≡ true → member view 1 ≡ false → member view 2 ≡ false → ⊥)
+    × (member view 0 ≡ false → member view 1 ≡ true → member view 2 ≡ false → ⊥)
+only-neither view l e =
+    let (zero, one) = not-single view e in (
+      λ a b c. zero (three-bits view 1 0 0 l (is-in view 0 a) (is-out view 1 b) (is-out view 2 c)),
+      λ a b c. one (three-bits view 0 1 0 l (is-out view 0 a) (is-in view 1 b) (is-out view 2 c)),
+    )
 
 -- a view of one value 0 or 1 does not hold both
 not-two : (view : ℕ) → (onlyOf view ≡ 2 → ⊥) → member view 0 && member view 1 ≡ false
@@ -39,14 +73,6 @@ not-two view = by-only (λ v o. (o ≡ 2 → ⊥) → member v 0 && member v 1 �
 holds-only : (view est : ℕ) → (onlyOf view ≡ 2 → ⊥) → roundEstimate view est ≡ onlyOf view
 unfolding member roundEstimate
 holds-only view est = by-only (λ v o. (o ≡ 2 → ⊥) → roundEstimate v est ≡ o) view (λ n. refl) (λ n. refl) (λ p q n. absurd (n refl))
-
--- a view with neither 0 nor 1 is not of one such value
-pub only-none : (view : ℕ) → member view 0 ≡ false → member view 1 ≡ false → onlyOf view ≡ 2
-unfolding member
-only-none view = by-only (λ v o. member v 0 ≡ false → member v 1 ≡ false → o ≡ 2) view (λ a b. clash a) (λ a b. clash b) (λ p q a b. refl)
-  where
-    clash : {n m : ℕ} → true ≡ false → n ≡ m
-    clash e = cc
 
 -- ---- Cases
 
@@ -168,6 +194,24 @@ seen-estimate h view s p e =
       λ o. decision ∙ undecided (eqb (h .decision) 2) (h .decision) (onlyOf view) refl o,
     )
 
+-- ".. Phase 2 follows", with the estimate as the own value and the decision as it was
+pub phase-follows : (h : Host) (view : ℕ) → h .stage ≡ 1 → h .phase ≡ 1 → member view 0 && member view 1 ≡ false
+    → afterView h view ≡ moved h (h .round) 2 0 (afterView h view .est) (afterView h view .est) (h .decision)
+phase-follows h view s p e = rw (phase-one h view s p e) refl
+
+-- ".. Then the next round.", with the estimate as the own value
+pub round-follows : (h : Host) (view : ℕ) → h .stage ≡ 1 → h .phase ≡ 2 → member view 0 && member view 1 ≡ false → h .round < 16
+    → afterView h view ≡ moved h (h .round + 1) 1 0 (afterView h view .est) (afterView h view .est) (afterView h view .decision)
+unfolding afterRound
+round-follows h view s p e l = rw (phase-two h view s p e, lt-leb 16 (h .round) l) refl
+
+-- "After round 16 a host is finished: it stays at round 16, phase 2, stage 1 with the own value it had there"
+pub round-ends : (h : Host) (view : ℕ) → h .stage ≡ 1 → h .phase ≡ 2 → member view 0 && member view 1 ≡ false → 16 ≤ h .round
+    → afterView h view
+    ≡ stood (moved h (h .round) (h .phase) (h .stage) (h .own) (afterView h view .est) (afterView h view .decision)) 1
+unfolding afterRound
+round-ends h view s p e l = rw (phase-two h view s p e, le-leb 16 (h .round) l) refl
+
 -- "one value v gives v as the own value of stage 1; two values give "neither""
 pub first-own : (h : Host) (view : ℕ) → h .stage ≡ 0 → afterView h view ≡ moved h (h .round) (h .phase) 1 (onlyOf view) (h .est) (h .decision)
 unfolding afterView
@@ -189,6 +233,12 @@ breaks-only h view n =
     (λ s p. by-round (λ g. g .standing ≡ 2 → (member view 0 ≡ true) × (member view 1 ≡ true) × (h .stage ≡ 0 → ⊥)) h _ _
     (λ e. absurd (omega arith)) (λ e. absurd (n e)))
 
+-- and nothing makes it a liar
+pub honest-stays : (h : Host) (view : ℕ) → (h .standing ≡ 3 → ⊥) → afterView h view .standing ≡ 3 → ⊥
+honest-stays h view n =
+    by-view (λ g. g .standing ≡ 3 → ⊥) h view (λ s. n) (λ s l r e. omega arith) (λ s p. n)
+    (λ s p. by-round (λ g. g .standing ≡ 3 → ⊥) h _ _ (λ e. omega arith) n)
+
 -- ---- What a view leaves alone
 
 -- the sent count
@@ -205,7 +255,8 @@ coins-stay h view =
 
 -- ---- Ranges
 
-only-low : (view : ℕ) → onlyOf view < 3
+-- the one value of a view is 0, 1 or, where it is not of one of them, 2
+pub only-low : (view : ℕ) → onlyOf view < 3
 only-low view = by-only (λ v o. o < 3) view (omega arith) (omega arith) (λ p q. omega arith)
 
 coin-low : (h : Host) → coin h < 2

@@ -10,7 +10,7 @@ use Value::{One, Zero};
 /// Name and maker of each example.
 type Example = (&'static str, fn() -> Vec<u8>);
 
-const EXAMPLES: [Example; 24] = [
+const EXAMPLES: [Example; 25] = [
     ("worked-example", worked_example),
     ("refused-01-header", refused_01_header),
     ("refused-01-record", refused_01_record),
@@ -31,6 +31,7 @@ const EXAMPLES: [Example; 24] = [
     ("refused-11", refused_11),
     ("refused-12", refused_12),
     ("unanimous", unanimous),
+    ("four-hosts-a-liar", four_hosts_a_liar),
     ("split-with-liars", split_with_liars),
     ("broken", broken),
     ("round-16", round_16),
@@ -309,6 +310,55 @@ fn refused_12() -> Vec<u8> {
 fn unanimous() -> Vec<u8> {
     let mut world = world(1, &[honest(One, &[]); 4]);
     play_in_step(&mut world, |_| {}, has_decided);
+    world.bytes
+}
+
+/// Hosts 0 and 1, whose proposals differ, decide 1 in round 1. Liar 3 is the third
+/// sender of every 1 that they admit or see, but in the first instance host 1 has
+/// 0 admitted too, with the VAL of host 2, and AUX 0 of the liar.
+fn four_hosts_a_liar() -> Vec<u8> {
+    let mut world = world(
+        1,
+        &[
+            honest(One, &[]),
+            honest(Zero, &[]),
+            honest(Zero, &[]),
+            Start::LIAR,
+        ],
+    );
+    for (phase, stage) in [(1, 0), (1, 1), (2, 0), (2, 1)] {
+        let at = Instance {
+            round: 1,
+            phase,
+            stage,
+        };
+        // Host 0 begins; host 1 echoes, and begins.
+        world.turn(0);
+        for host in [0, 1] {
+            world.deliver_val(host, 0, at, One);
+            world.deliver_val(host, 3, at, One);
+        }
+        turn_until_idle(&mut world, 1);
+        world.deliver_val(0, 1, at, One);
+        world.deliver_val(1, 1, at, One);
+        // Both admit 1 and send AUX 1.
+        turn_until_idle(&mut world, 0);
+        turn_until_idle(&mut world, 1);
+        if at == FIRST {
+            world.turn(2);
+            for sender in [1, 2, 3] {
+                world.deliver_val(1, sender, at, Zero);
+            }
+            world.turn(1);
+        }
+        for host in [0, 1] {
+            let told = if at == FIRST && host == 1 { Zero } else { One };
+            world.deliver_aux(host, 0, at, One);
+            world.deliver_aux(host, 1, at, One);
+            world.deliver_aux(host, 3, at, told);
+            world.turn(host);
+        }
+    }
     world.bytes
 }
 

@@ -1,0 +1,14 @@
+pub mod Votes
+pub mod Phases
+pub mod Steps
+pub mod Outcome
+pub mod Reading
+pub mod Putting
+pub mod Standing
+pub mod Moving
+pub mod Hearing
+pub mod Events
+pub mod Rounds
+pub mod Marks
+pub mod Safe
+pub mod Example

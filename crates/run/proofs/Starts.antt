@@ -12,7 +12,8 @@ use lib.ListN.{length, getD, set, length-set, length-replicate, getD-replicate}
 use lib.Seq.{getD-set-same, getD-set-other}
 use Rattle.answer.specs.Answer.{accepted}
 use Rattle.answer.proofs.Guards.{clear}
-use Rattle.quorum.proofs.Reached.{Sized, sized}
+use Rattle.quorum.specs.World.{badHosts, badLiars}
+use Rattle.quorum.proofs.Reached.{sized}
 use Rattle.host.specs.Record.{Valid}
 use Rattle.host.specs.declared.Host.{Host}
 use Rattle.file.specs.Layouts.{honest, threeAt, firstHost}
@@ -81,11 +82,15 @@ module _ (bytes : List ℕ) {run : Run} (started : starting bytes ≡ accepted r
   is-first = clear (startGuards bytes) (firstRun bytes (worldIn bytes)) started .1
 
   -- its world is one that 2 and 3 let pass
-  pub started-sized : Sized (run .world)
+  pub started-world : (badHosts (run .world) ≡ false) × (badLiars (run .world) ≡ false)
   unfolding starting
-  started-sized =
+  started-world =
       let ((_, (n, (t, _))), _) = clear (startGuards bytes) (firstRun bytes (worldIn bytes)) started in
-      rw is-first (sized (worldIn bytes) n t)
+      rw is-first (n, t)
+
+  -- so it has 32 hosts at most
+  most-hosts : run .world .n ≤ 32
+  most-hosts = let (n, t) = started-world in sized (run .world) n t .most
 
   -- there are 32 records
   pub started-length : length (run .hosts) ≡ 32
@@ -97,7 +102,7 @@ module _ (bytes : List ℕ) {run : Run} (started : starting bytes ≡ accepted r
 
   -- that of each host of the world is what its three bytes say
   pub started-record : (i : ℕ) → i < run .world .n → hostAt run i ≡ firstHost (threeAt bytes (recordPlace i))
-  started-record i l = rw is-first (enrolled-record bytes (worldIn bytes .n) i (rw is-first at (started-sized .most)) (rw is-first at l))
+  started-record i l = rw is-first (enrolled-record bytes (worldIn bytes .n) i (rw is-first at most-hosts) (rw is-first at l))
 
   -- after any number of events each record is in range: no event is refused by 13 for a record
   pub run-valid : (table : List ℕ) (ps : List (List ℕ)) (i : ℕ) → i < 32 → Valid (hostAt (after run table ps .0) i)

@@ -1,13 +1,12 @@
 -- Every event of a run keeps the vote: from the run that a file starts and a cleared table, words and records are those of a vote that its steps
 -- reach. Assumes nothing.
-use Prim.Native.Nat.{ℕ, zero, suc, _+_, _-_, _*_, _/_, _%_, _^_, _≤_, _<_}
+use Prim.Native.Nat.{ℕ, zero, suc, _-_, _/_, _%_, _^_, _≤_, _<_}
 use mathlib.Core.Path.{_≡_, refl, sym, ap, subst, _∙_}
-use mathlib.Core.Bool.{Bool, true, false, cond, not, false≢true}
+use mathlib.Core.Bool.{Bool, true, false, cond, not}
 use mathlib.Core.List.{List, [], _∷_}
-use mathlib.Core.Logic.{_⊎_, ⊎-elim}
 use native.Mathlib.Decide.{ℕ-discrete}
 use native.Mathlib.Omega.{arith}
-use lib.ListN.{length, getD, set, length-set}
+use lib.ListN.{length, length-set}
 use borrow.Author.Tests.{eqb-false, ne-eqb, leb-false, not-true}
 use Rattle.answer.specs.Answer.{Answer, refused, accepted}
 use Rattle.frame.specs.declared.Frame.{Frame}
@@ -17,17 +16,16 @@ use Rattle.quorum.specs.declared.World.{World}
 use Rattle.quorum.proofs.Counting.{count-same}
 use Rattle.quorum.proofs.Reached.{Sized}
 use Rattle.host.specs.Words.{hasSent}
-use Rattle.host.specs.Record.{lying, broken, coin, Valid}
+use Rattle.host.specs.Record.{lying, coin, Valid}
 use Rattle.host.specs.declared.Host.{Host}
 use Rattle.view.proofs.Views.{coins-stay, honest-stays}
 use Rattle.turn.specs.Moves.{chosen}
-use Rattle.turn.specs.Applying.{Turn, idle, quiet, broadcast, answered, markedBy}
+use Rattle.turn.specs.Applying.{Turn, idle, quiet, broadcast, answered}
 use Rattle.turn.specs.declared.choosing.Move.{Move}
 use Rattle.turn.proofs.Turns.{turn-made}
 use Rattle.delivery.specs.Recording.{frameInstance}
 use Rattle.delivery.proofs.Changes.{word-delivered, delivery-said, asked-sent}
 use Rattle.file.specs.Layouts.{threeAt, eventOf}
-use Rattle.file.specs.declared.Event.{Event}
 use Rattle.table.specs.Table.{partOf, said}
 use Rattle.table.specs.Stepping.{delivers}
 use Rattle.table.proofs.Steps.{step-length, step-others, step-turn, step-delivery, step-valid, quiet-valid, said-asked}
@@ -36,7 +34,7 @@ use Rattle.run.specs.declared.Run.{Run}
 use Rattle.run.proofs.Happening.{stepOf, refused-leaves, event-step, host-32}
 use Rattle.run.proofs.Sent.{event-others, event-own}
 use Rattle.safety.specs.Demand.{liars, proposal}
-use Rattle.safety.proofs.Votes.{Val, v0, v1, neither, Bit, Vote, Honest}
+use Rattle.safety.proofs.Votes.{Val, Bit, Vote, Honest}
 use Rattle.safety.proofs.Reading.{valOf}
 use Rattle.safety.proofs.Standing.{Stand}
 use Rattle.safety.proofs.Moving.{Voted, voted-hosts, turn-voted}

@@ -1,10 +1,10 @@
--- The theorem of demand 3 is not empty: a recorded run in which one host of four lies and others decide, computed by the definitions. Assumes
--- nothing.
+-- Demand 3 is not empty: a recorded run of four hosts, of which one lies and others decide, computed by the definitions. Assumes nothing.
 use Prim.Native.Nat.{ℕ}
 use mathlib.Core.Path.{_≡_, refl}
 use mathlib.Core.List.{List, [], _∷_}
 use native.Mathlib.Omega.{arith}
 use lib.Count.{ones}
+use lib.ListN.{length}
 use Rattle.answer.specs.Answer.{accepted}
 use Rattle.frame.specs.Frame.{unpacking, frameOf}
 use Rattle.quorum.specs.Sets.{member, add}
@@ -23,7 +23,9 @@ use Rattle.table.specs.Stepping.{readying, stepping}
 use Rattle.run.specs.Starting.{worldIn, enrolled, recordsGuards, starting, firstRun, restBy}
 use Rattle.run.specs.Playing.{pieces, hostAt, happens, after}
 use Rattle.run.specs.declared.Run.{Run}
-use Rattle.safety.specs.Demand.{Honest, liars, proposal, cleared, Decided}
+use Rattle.run.specs.Broadcasts.{broadcasts}
+use Rattle.safety.specs.Demand.{Honest, liars, proposal, Decided, Safe, cleared, events}
+use Rattle.safety.proofs.Safe.{always-safe}
 
 -- The bytes of examples/four-hosts-a-liar.run, in hexadecimal where a byte is not a host's number or 0. A turn of host i is 80 + i, 0, 0. A
 -- delivery to host i is i and two bytes of a frame: the first is 02 for VAL and 42 for AUX, in phase 2 it is 03 and 43; the second, for value 1 of
@@ -65,13 +67,14 @@ example =
     1 ∷ 0x43 ∷ 0xa0 ∷ 1 ∷ 0x43 ∷ 0xa1 ∷ 1 ∷ 0x43 ∷ 0xa3 ∷ 0x81 ∷ 0 ∷ 0 ∷
     []
 
--- the run before its first event, and after its last
+-- the run before its first event, and after its last, the 89th
 abbrev pub start : Run
 start = firstRun example (worldIn example)
 
 abbrev pub finish : Run
-finish = after start cleared (pieces (restBy example (accepted start))) .0
+finish = after start cleared (events 89 example start) .0
 
+-- the header and the records are accepted
 pub example-starts : starting example ≡ accepted start
 unfolding example headerWorld enrolled recordsGuards starting
 example-starts = refl
@@ -82,9 +85,13 @@ pub example-hosts : (liars start ≡ 1) × (start .world .t ≡ 1) × Honest sta
 unfolding example headerWorld enrolled count
 example-hosts = (refl, refl, (omega arith, refl), (omega arith, refl), (omega arith, refl), refl, refl)
 
--- Hosts 0 and 1 have decided 1. None of the 89 events was refused. Host 0 has broadcast 8 frames; host 1 has broadcast 10, more than the 8 of
--- equal proposals, since it echoed 1 in phase 1 beside its own values.
+-- so demand 3 speaks of this run
+pub example-safe : Safe start finish (broadcasts start cleared (events 89 example start))
+example-safe = always-safe example start example-starts (omega (arith, example-hosts .0, example-hosts .1)) 89
+
+-- Hosts 0 and 1 have decided 1. None of the 89 events was refused, and there are no more. Host 0 has broadcast 8 frames; host 1 has broadcast
+-- 10, more than the 8 of equal proposals, since it echoed 1 in phase 1 beside its own values.
 pub example-decides : Decided finish 0 1 × Decided finish 1 1 × (finish .events ≡ 89) × (finish .refused ≡ 0)
-    × (hostAt finish 0 .sent ≡ 8) × (hostAt finish 1 .sent ≡ 10)
+    × (length (pieces (restBy example (accepted start))) ≡ 89) × (hostAt finish 0 .sent ≡ 8) × (hostAt finish 1 .sent ≡ 10)
 unfolding example headerWorld enrolled pieces after happens eventIn stepping readying deliveringAt turningAt partOf withPart said unpacking frameOf deliveringWord delivering asking maySend recording heldAux put add member senders marks turning chosen search first due ones proceeding beginning viewing viewers heard viewOf afterView afterRound roundEstimate decided phaseEstimate onlyOf
-example-decides = ((refl, omega arith), (refl, omega arith), refl, refl, refl, refl)
+example-decides = ((refl, omega arith), (refl, omega arith), refl, refl, refl, refl, refl)

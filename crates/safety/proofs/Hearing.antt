@@ -1,9 +1,8 @@
 -- A delivery that is accepted is a step of the vote: what is recorded of an honest sender, it has broadcast, and of each sender one AUX is
 -- recorded in an instance. Assumes nothing.
-use Prim.Native.Nat.{ℕ, zero, suc, _+_, _-_, _≤_, _<_}
-use mathlib.Core.Path.{_≡_, refl, sym, ap, _∙_}
+use Prim.Native.Nat.{ℕ, zero, suc, _-_, _<_}
+use mathlib.Core.Path.{_≡_, refl, sym, _∙_}
 use mathlib.Core.Bool.{Bool, true, false, false≢true}
-use mathlib.Core.List.{List}
 use native.Mathlib.Decide.{ℕ-discrete}
 use native.Mathlib.Omega.{arith}
 use lib.ListN.{getD}
@@ -13,14 +12,13 @@ use Rattle.frame.specs.Frame.{unpackGuards, unpacking, frameOf, badValue}
 use Rattle.frame.specs.declared.Frame.{Frame}
 use Rattle.quorum.specs.Sets.{member}
 use Rattle.quorum.specs.declared.World.{World}
-use Rattle.host.specs.Words.{values, AUX, senders, marks, hasSent}
+use Rattle.host.specs.Words.{AUX, senders, marks, hasSent}
 use Rattle.host.specs.declared.Host.{Host}
 use Rattle.delivery.specs.Recording.{frameInstance, frameSet}
 use Rattle.delivery.specs.Delivery.{delivering}
 use Rattle.delivery.specs.Parts.{Told}
 use Rattle.delivery.proofs.Changes.{delivery-told, delivery-one-bit, first-aux}
-use Rattle.safety.proofs.Votes.{Val, v0, v1, neither, Slot, stage0, stage1, Vote}
-use Rattle.safety.proofs.Phases.{phases}
+use Rattle.safety.proofs.Votes.{Val, Slot, Vote}
 use Rattle.safety.proofs.Reading.{num, valOf, num-val, inst, inst-at, slotAt, Item, val, aux, saidVal, saidAux, at, bit, Words, fits, holds, holds-parts, holds-when, fits-low}
 use Rattle.safety.proofs.Putting.{Put, Reason}
 use Rattle.safety.proofs.Moving.{Voted, voted-put}

@@ -10,5 +10,6 @@ pub mod Hearing
 pub mod Events
 pub mod Rounds
 pub mod Marks
+pub mod Opening
 pub mod Safe
 pub mod Example

@@ -9,12 +9,9 @@ use borrow.Author.Tests.{eqb-true, eq-eqb, ne-eqb, lt-ltb, le-ltb}
 use lib.Dec.{eqb, ltb, eqb·suc-suc}
 use lib.ListN.{length, getD, take, drop, replicate, length-take, List·getD-eq-default}
 use lib.Seq.{getD-take, getD-drop}
-use Rattle.answer.specs.Answer.{Answer, refused, accepted, past}
-use Rattle.answer.proofs.Guards.{not-both, past-clear, lent-accepted}
+use Rattle.answer.specs.Answer.{Answer, refused, accepted}
 use Rattle.answer.proofs.Tests.{both, either}
-use Rattle.frame.specs.Frame.{unpacking}
 use Rattle.frame.specs.declared.Frame.{Frame}
-use Rattle.frame.proofs.Laws.{value-in, named-in}
 use Rattle.quorum.specs.Count.{one, count}
 use Rattle.quorum.specs.World.{thresholdsOf}
 use Rattle.quorum.specs.declared.World.{World}
@@ -26,9 +23,9 @@ use Rattle.host.specs.Record.{Valid}
 use Rattle.host.specs.declared.Host.{Host}
 use Rattle.host.proofs.Puts.{put-length, put-same, put-others}
 use Rattle.host.proofs.Ranges.{ready-clear}
-use Rattle.delivery.specs.Recording.{frameInstance, recording}
-use Rattle.delivery.specs.Delivery.{receiverGuards, deliverGuards, concluded, delivering, afterUnpacking, deliveringWord}
-use Rattle.delivery.proofs.Changes.{word-refused, delivery-one-bit}
+use Rattle.delivery.specs.Recording.{frameInstance}
+use Rattle.delivery.specs.Delivery.{delivering, deliveringWord}
+use Rattle.delivery.proofs.Changes.{word-delivered, delivery-told, delivery-one-bit}
 use Rattle.turn.specs.Moves.{chosen}
 use Rattle.turn.specs.Applying.{Turn, idle, quiet, broadcast, answered, markedBy}
 use Rattle.turn.specs.Turning.{turning}
@@ -144,7 +141,7 @@ sent-spoken words kind i v two low here new =
     spoken-more words (mark words i (sentBit kind v)) true kind i v two low (sent-one words kind i v (omega arith) here new)
 
 -- the frames that a turn broadcast: one at most
-abbrev pub framesIn : Turn → List Frame
+abbrev framesIn : Turn → List Frame
 framesIn idle = []
 framesIn (quiet g) = []
 framesIn (broadcast g f) = f ∷ []
@@ -177,7 +174,7 @@ move-spoken words h s me (Move.Aux i v) r l d c =
 move-spoken words h s me (Move.View view) r l d c = omega arith
 
 -- a turn marks the frame that it broadcasts, and no other
-pub turn-spoken : (words : List ℕ) (h : Host) (w : World) (me : ℕ) {a : Turn} {after : List ℕ} → turning words h w me ≡ (accepted a, after)
+turn-spoken : (words : List ℕ) (h : Host) (w : World) (me : ℕ) {a : Turn} {after : List ℕ} → turning words h w me ≡ (accepted a, after)
     → (r : ℕ) → spoken after r ≡ spoken words r + inRound (suc r) (framesIn a)
 turn-spoken words h w me e r =
     let ((g13, (g2, (g3, _))), made) = turn-made words h w me e in
@@ -192,27 +189,18 @@ apart j i c l e = omega arith
 
 frame-same : (words : List ℕ) (h : Host) (w : World) (f : Frame) (b : Bool) {after : List ℕ} → delivering words h w f b ≡ (accepted tt, after)
     → (k j x : ℕ) → hasSent after k j x ≡ hasSent words k j x
-unfolding delivering marks
-frame-same words h w f b {after} e k j x =
-    let r = lent-accepted words after (past (deliverGuards words h w f b) (concluded (recording words f))) e in
-    let ((_, (_, (_, (_, (_, (g9, (g5, _))))))), _) = past-clear (deliverGuards words h w f b) _ r in
-    let (kind, _, _, _) = named-in f g5 in
-    let value = value-in (f .value) (f .stage) g9 in
+unfolding marks
+frame-same words h w f b e k j x =
+    let (t, _) = delivery-told words h w f b e in
     delivery-one-bit words h w f b e .2 (marksAt j) (sentBit k x)
-    (λ (p, _). apart j (frameInstance f) (3 * f .kind + f .value) (omega arith) (omega arith))
+    (λ (p, _). apart j (frameInstance f) (3 * f .kind + f .value) (omega (arith, t .kind, t .value)) (omega arith))
 
 -- a delivery marks no frame
-pub delivery-spoken : (words : List ℕ) (h : Host) (w : World) (word : ℕ) (b : Bool) (a : Answer Unit) {after : List ℕ}
-    → deliveringWord words h w word b ≡ (a, after) → (r : ℕ) → spoken after r ≡ spoken words r
-unfolding deliveringWord
-delivery-spoken words h w word b (refused k) e r = rw (word-refused words h w word b e) refl
-delivery-spoken words h w word b (accepted u) {after} e r = go (unpacking word) e
-  where
-    go : (f : Answer Frame) → afterUnpacking words h w b f ≡ (accepted u, after) → spoken after r ≡ spoken words r
-    go (refused k) q =
-        let gs = receiverGuards (length words) h w in
-        absurd (not-both (past-clear gs (refused k) (lent-accepted words after (past gs (refused k)) q) .1) refl)
-    go (accepted f) q = same-spoken words after (λ k j x _. frame-same words h w f b q k j x) r
+delivery-spoken : (words : List ℕ) (h : Host) (w : World) (word : ℕ) (b : Bool) {after : List ℕ}
+    → deliveringWord words h w word b ≡ (accepted tt, after) → (r : ℕ) → spoken after r ≡ spoken words r
+delivery-spoken words h w word b {after} e =
+    let (f, _, q) = word-delivered words h w word b e in
+    same-spoken words after (λ k j x _. frame-same words h w f b q k j x)
 
 -- ---- A whole run
 
@@ -223,7 +211,7 @@ unfolding inRound
 step-spoken table h s w e a t q r = go (delivers e) refl
   where
     go : (b : Bool) → delivers e ≡ b → spoken (partOf t (e .host)) r ≡ spoken (partOf table (e .host)) r + inRound (suc r) (framesIn a)
-    go true d = let (given, still) = step-delivery table h s w e d q in rw still (omega (arith, delivery-spoken _ _ _ _ _ _ given r))
+    go true d = let (given, still) = step-delivery table h s w e d q in rw still (omega (arith, delivery-spoken _ _ _ _ _ given r))
     go false d = turn-spoken (partOf table (e .host)) h w (e .host) (step-turn table h s w e d q) r
 
 -- what an accepted event broadcast is what its turn did, where that was host i's
@@ -248,7 +236,7 @@ event-spoken run table piece i r = go (happens run table piece) refl
     go (accepted a, t) e = rw (frames-are i piece a) (own a t (event-step run table piece e) (ℕ-discrete (hostIn piece) i))
 
 -- what the marks of a host say more after a run are the frames that it broadcast in it
-pub frames-marked : (run : Run) (table : List ℕ) (ps : List (List ℕ)) (i r : ℕ)
+frames-marked : (run : Run) (table : List ℕ) (ps : List (List ℕ)) (i r : ℕ)
     → spoken (partOf (after run table ps .1) i) r ≡ spoken (partOf table i) r + inRound (suc r) (broadcasts run table ps i)
 unfolding after broadcasts inRound
 frames-marked run table [] i r = omega arith
@@ -301,7 +289,7 @@ pub cleared-words : (i j : ℕ) → getD (partOf cleared i) j 0 ≡ 0
 cleared-words = part-zeros cleared (all-zeros 14336)
 
 -- its marks say no frame
-pub clear-spoken : (i r : ℕ) → spoken (partOf cleared i) r ≡ 0
+clear-spoken : (i r : ℕ) → spoken (partOf cleared i) r ≡ 0
 clear-spoken i = unmarked (partOf cleared i) (cleared-words i)
 
 -- from a cleared table on, marks say the frames that a host has broadcast

@@ -1,16 +1,13 @@
 -- A turn of an honest host is a step of the vote: each move has the reason that the vote asks for. Assumes nothing.
-use Prim.Native.Nat.{ℕ, _+_, _-_, _*_, _/_, _%_, _≤_, _<_}
-use mathlib.Core.Path.{_≡_, refl, sym, ap, subst, _∙_}
+use Prim.Native.Nat.{ℕ, _+_, _-_, _/_, _%_, _≤_, _<_}
+use mathlib.Core.Path.{_≡_, refl, sym, subst, _∙_}
 use mathlib.Core.Bool.{Bool, true, false, cond, _&&_, false≢true}
 use mathlib.Core.List.{List}
-use mathlib.Core.Logic.{_⊎_, inl, inr, ⊎-elim}
-use mathlib.Core.Option.{some}
+use mathlib.Core.Logic.{inl, inr}
 use native.Mathlib.Decide.{ℕ-discrete}
 use native.Mathlib.Omega.{arith}
 use lib.Dec.{eqb}
-use lib.ListN.{getD}
 use borrow.Author.Tests.{eq-eqb, ne-eqb, eqb-false}
-use Rattle.answer.proofs.Tests.{both}
 use Rattle.quorum.specs.Count.{count}
 use Rattle.quorum.specs.Sets.{member, size}
 use Rattle.quorum.specs.World.{thresholdsOf}
@@ -18,23 +15,23 @@ use Rattle.quorum.specs.declared.World.{World}
 use Rattle.quorum.proofs.Adding.{members-count}
 use Rattle.quorum.proofs.Counting.{count-within}
 use Rattle.quorum.proofs.Reached.{echo-over, admit-over, view-over}
-use Rattle.host.specs.Words.{values, VAL, AUX, senders, marks, hasSent, sentBit, begunBit, put, mark}
+use Rattle.host.specs.Words.{values, VAL, AUX, senders, marks, sentBit, begunBit, put, mark}
 use Rattle.host.specs.Record.{finished, broken, lying, coin, sentOne, Valid}
 use Rattle.host.specs.declared.Host.{Host}
 use Rattle.host.proofs.Puts.{put-others, put-grows}
 use Rattle.view.specs.View.{afterView}
 use Rattle.turn.specs.Moves.{witnesses, viewers, heard, viewOf, current, chosen}
-use Rattle.turn.specs.Applying.{answered, markedBy, InRange}
+use Rattle.turn.specs.Applying.{answered, markedBy}
 use Rattle.turn.specs.declared.choosing.Move.{Move}
 use Rattle.turn.proofs.Choice.{echo-enough, echo-new, admit-enough, admit-new, begin-new, begin-voting, aux-admitted, aux-none, view-enough, view-is, view-voting}
 use Rattle.turn.proofs.Viewers.{heard-means, heard-when, viewer-heard, view-values, view-holds, view-small}
 use Rattle.turn.proofs.Within.{chosen-in}
 use Rattle.run.specs.Playing.{recordAfter}
-use Rattle.safety.proofs.Votes.{Val, v0, v1, neither, phase1, Slot, stage0, stage1, View, Vote, Honest, History, Fact, made, saw, Add, old, new, Sound}
-use Rattle.safety.proofs.Steps.{State, Viewed, Reached, step, admits as allows, inv, sound, step-saw}
+use Rattle.safety.proofs.Votes.{Val, phase1, Slot, stage0, View, Vote, Honest, History, made, saw, Add, old, new, Sound}
+use Rattle.safety.proofs.Steps.{Viewed, Reached, step, admits as allows, inv, sound, step-saw}
 use Rattle.safety.proofs.Phases.{phases, In}
 use Rattle.safety.proofs.Outcome.{never-split}
-use Rattle.safety.proofs.Reading.{num, valOf, val-num, num-val, num-low, inst, inst-of, inst-at, slotOf, phaseOf, slotAt, Item, val, aux, saidVal, admits, saidAux, begun, at, bit, Words, fits, holds, holds-parts, holds-when, fits-low, low-fits, lowest-has, says}
+use Rattle.safety.proofs.Reading.{num, valOf, num-val, num-low, inst, inst-of, inst-at, slotOf, phaseOf, slotAt, Item, val, aux, saidVal, admits, saidAux, begun, at, bit, Words, fits, holds, holds-parts, holds-when, fits-low, low-fits, lowest-has, says}
 use Rattle.safety.proofs.Putting.{Tidy, aux-is, Put, Reason, put-tidy, put-step}
 use Rattle.safety.proofs.Standing.{viewed, Stand, stand-mono, stand-after}
 

@@ -1,7 +1,7 @@
 -- One bit more in the words of one host is a step of the vote, where it has the reason that its item asks for. Assumes nothing.
 use Prim.Native.Nat.{ℕ, _*_, _<_}
-use mathlib.Core.Path.{_≡_, refl, sym, subst, _∙_}
-use mathlib.Core.Bool.{Bool, true, false}
+use mathlib.Core.Path.{_≡_, sym, _∙_}
+use mathlib.Core.Bool.{true}
 use mathlib.Core.Option.{some}
 use mathlib.Core.Logic.{_⊎_, inl, inr, ⊎-elim}
 use native.Mathlib.Decide.{ℕ-discrete}
@@ -9,8 +9,8 @@ use lib.ListN.{getD}
 use Rattle.quorum.specs.Count.{count}
 use Rattle.quorum.specs.Sets.{member}
 use Rattle.safety.proofs.Votes.{Val, Slot, Vote, History, Rule}
-use Rattle.safety.proofs.Steps.{State, Step}
-use Rattle.safety.proofs.Reading.{inst, Item, val, aux, saidVal, admits, saidAux, begun, at, bit, place-one, Words, means, holds, holds-parts, holds-when, lowest, lowest-has, lowest-is, says}
+use Rattle.safety.proofs.Steps.{Step}
+use Rattle.safety.proofs.Reading.{inst, Item, val, aux, saidVal, admits, saidAux, begun, at, bit, place-one, Words, means, holds, holds-parts, holds-when, lowest-has, lowest-is, says}
 
 -- ---- The words of a run
 

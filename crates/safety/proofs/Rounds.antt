@@ -43,12 +43,12 @@ over-one zero x l = rw (le-ltb x 1 l) refl
 over-one (suc k) x l = rw (over-one k x l) (one-more x (suc k) (suc (suc k)) refl)
 
 -- frames of rounds 1 to 16
-abbrev pub Timely : List Frame → Type 0
+abbrev Timely : List Frame → Type 0
 Timely [] = Unit
 Timely (f ∷ frames) = (1 ≤ f .round) × (f .round ≤ 16) × Timely frames
 
 -- all of them are those of each round together
-pub rounds-sum : (frames : List Frame) → Timely frames → length frames ≡ overRounds 16 (λ r. inRound r frames)
+rounds-sum : (frames : List Frame) → Timely frames → length frames ≡ overRounds 16 (λ r. inRound r frames)
 unfolding inRound overRounds
 rounds-sum [] t = refl
 rounds-sum (f ∷ frames) (low, high, t) =
@@ -82,7 +82,7 @@ event-round run table piece {f = f} e =
     round-in (f .round) (clear (packGuards f) (wordOf f) packs .0 .0)
 
 -- each frame that a host broadcasts in a run is of one of the 16 rounds
-pub broadcasts-timely : (run : Run) (table : List ℕ) (ps : List (List ℕ)) (i : ℕ) → Timely (broadcasts run table ps i)
+broadcasts-timely : (run : Run) (table : List ℕ) (ps : List (List ℕ)) (i : ℕ) → Timely (broadcasts run table ps i)
 unfolding broadcasts
 broadcasts-timely run table [] i = tt
 broadcasts-timely run table (p ∷ ps) i =

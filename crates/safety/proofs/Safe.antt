@@ -1,121 +1,42 @@
 -- Demand 3, of every run file: whatever its liars send and whatever its coins are, after any number of its events. Assumes nothing.
 use Prim.Native.Nat.{ℕ, zero, suc, _+_, _-_, _*_, _≤_, _<_}
 use mathlib.Core.Path.{_≡_, refl, sym, ap, _∙_}
-use mathlib.Core.Bool.{Bool, true, false, cond, not, _&&_, false≢true}
+use mathlib.Core.Bool.{Bool, true, false}
 use mathlib.Core.List.{List}
-use mathlib.Core.Logic.{_⊎_, inl, inr}
+use mathlib.Core.Logic.{inl, inr}
 use native.Mathlib.Decide.{decLt}
 use native.Mathlib.Omega.{arith}
-use lib.Dec.{eqb}
-use lib.ListN.{length, getD, take, length-replicate}
+use lib.Dec.{ltb}
+use lib.ListN.{length}
 use borrow.Author.Tests.{lt-ltb, ne-eqb, not-true}
-use Rattle.answer.specs.Answer.{accepted}
+use Rattle.answer.specs.Answer.{Answer, refused, accepted}
+use Rattle.answer.proofs.Guards.{not-both}
 use Rattle.frame.specs.declared.Frame.{Frame}
-use Rattle.quorum.specs.Count.{one, count}
-use Rattle.quorum.proofs.Adding.{member-none}
+use Rattle.quorum.specs.Count.{count}
+use Rattle.quorum.specs.declared.World.{World}
 use Rattle.quorum.proofs.Reached.{Sized}
 use Rattle.host.specs.Words.{values, VAL, AUX, marks, hasSent}
-use Rattle.host.specs.Record.{lying, broken, Valid}
-use Rattle.host.specs.declared.Host.{Host}
-use Rattle.file.specs.Layouts.{honest, firstHost}
+use Rattle.file.specs.Reading.{headerSays}
 use Rattle.table.specs.Table.{partOf}
-use Rattle.run.specs.Starting.{starting, restBy}
+use Rattle.run.specs.Starting.{starting, besideIt}
 use Rattle.run.specs.Playing.{pieces, hostAt, after}
 use Rattle.run.specs.Broadcasts.{broadcasts}
+use Rattle.run.specs.Calls.{Starts}
+use Rattle.run.specs.Replaying.{replaying}
 use Rattle.run.specs.declared.Run.{Run}
-use Rattle.run.proofs.Starts.{first-valid, started-sized, started-length, started-all}
-use Rattle.safety.specs.Demand.{Honest, liars, proposal, Equal, cleared, Decided, inRound, Safe}
-use Rattle.safety.proofs.Votes.{Val, v0, v1, neither, phase1, phase2, Slot, stage0, stage1, View, Fact, made, saw, Made, Honest as HonestIn, Equal as EqualIn}
-use Rattle.safety.proofs.Phases.{first, Decided as DecidedIn}
-use Rattle.safety.proofs.Steps.{Start, start, several, several-one}
+use Rattle.run.specs.declared.Started.{Started}
+use Rattle.run.proofs.Runs.{replaying-after}
+use Rattle.run.proofs.Starts.{started-world}
+use Rattle.safety.specs.Demand.{Honest, liars, proposal, Equal, Decided, inRound, overRounds, Safe, cleared, events, AlwaysSafe}
+use Rattle.safety.proofs.Votes.{Val, v0, v1, neither, phase1, phase2, Slot, stage0, stage1, made, Honest as HonestIn, Equal as EqualIn}
+use Rattle.safety.proofs.Phases.{Decided as DecidedIn}
+use Rattle.safety.proofs.Steps.{several, several-one}
 use Rattle.safety.proofs.Outcome.{agree, valid, two-said, one-said}
-use Rattle.safety.proofs.Reading.{num, valOf, val-num, num-val, inst, Item, bit, saidVal, saidAux, val, aux, admits, Words, fits, holds, holds-parts, lowest-has, says}
-use Rattle.safety.proofs.Putting.{Tidy}
-use Rattle.safety.proofs.Standing.{Stand}
-use Rattle.safety.proofs.Moving.{Voted}
-use Rattle.safety.proofs.Events.{bit-val, vote, proposals, Fair, fair-run}
+use Rattle.safety.proofs.Reading.{num, valOf, num-val, inst, saidVal, saidAux, Words, fits, holds, says}
+use Rattle.safety.proofs.Opening.{size-of, below, ranged, fair-first}
+use Rattle.safety.proofs.Events.{vote, Fair, fair-run}
 use Rattle.safety.proofs.Rounds.{sent-sum, out-of-range}
-use Rattle.safety.proofs.Marks.{saidIn, spoken, cleared-words, marked}
-
--- ---- How it starts
-
--- what has happened before the first event: the proposals
-data Given (p : ℕ → Val) : ℕ → Fact → Type 0 where
-  given : {i : ℕ} → Given p i (made (p i))
-
-given-is : {p : ℕ → Val} {i : ℕ} {f : Fact} → Given p i f → f ≡ made (p i)
-given-is given = refl
-
-none-seen : {p : ℕ → Val} {i r : ℕ} {q : Slot} {W : View} → Given p i (saw r q W) → ⊥
-none-seen d = let e = given-is d in let z : _≡_ {A = ℕ} 0 1 = cc in omega arith
-
--- nothing holds in a cleared table
-nothing : (i r : ℕ) (q : Slot) (x : Item) → holds (partOf cleared) i r q x ≡ true → ⊥
-nothing i r q x h =
-    let (_, _, m) = holds-parts (partOf cleared) i r q x h in
-    false≢true (sym (member-none (bit x)) ∙ (rw (cleared-words i _) at m))
-
--- "Each starts at round 1, phase 1, stage 0, undecided", honest or lying
-abbrev Fresh : Host → Type 0
-Fresh h = (h .round ≡ 1) × (h .phase ≡ 1) × (h .stage ≡ 0) × (h .own ≡ h .est) × (h .decision ≡ 2) × (h .standing ≡ 2 → ⊥)
-
-standing-first : (b : Bool) → _≡_ {A = ℕ} (cond b 3 0) 2 → ⊥
-standing-first true e = omega arith
-standing-first false e = omega arith
-
-fresh : (number : ℕ) → Fresh (firstHost number)
-fresh number = (refl, refl, refl, refl, refl, standing-first (eqb (honest number) 0))
-
--- a file whose header and records are accepted, with at most t liars
-module _ (bytes : List ℕ) (run : Run) (started : starting bytes ≡ accepted run) (few : liars run ≤ run .world .t) where
-  abbrev sized : Sized (run .world)
-  sized = started-sized bytes started
-
-  below : {i : ℕ} → i < run .world .n → i < 32
-  below l = omega (arith, sized .most)
-
-  ranged : (i : ℕ) → i < 32 → Valid (hostAt run i)
-  ranged = started-all bytes started Valid first-valid
-
-  stands-first : (i : ℕ) → HonestIn (vote run sized few) i → Stand (vote run sized few) (Given (proposals run sized few)) i (hostAt run i)
-  stands-first i g =
-      let (round, phase, stage, own, decision, whole) = started-all bytes started Fresh fresh i (below (g .0)) in
-      record {
-        own-in = λ _. rw (round, phase, stage, own) (first g (bit-val (hostAt run i .est) (ranged i (below (g .0)) .est)) given);
-        est-in = λ _ _ s. absurd (omega arith);
-        dec-in = λ v l e. absurd (omega arith);
-        whole = whole;
-      }
-
-  fair-first : Fair run sized few run cleared
-  unfolding says
-  fair-first = record {
-    room = rw (length-replicate {A = ℕ} 14336 0) (omega arith);
-    hosts = started-length bytes started;
-    world = refl;
-    ranged = ranged;
-    lies = λ i. refl;
-    coins = λ i. refl;
-    voted = record {
-      hist = Given (proposals run sized few);
-      tidy = record {
-        val-low = λ i r q v j h. absurd (nothing i r q (val v j) h);
-        aux-low = λ i r q v j h. absurd (nothing i r q (aux v j) h);
-        aux-one = λ i r q j v w h _. absurd (nothing i r q (aux v j) h);
-        said-one = λ i r q v w h _. absurd (nothing i r q (saidAux v) h);
-      };
-      reached = start (record {
-        no-val = λ {i} {r} {q} {v} {j} h. nothing i r q (val v j) h;
-        no-aux = λ {i} {r} {q} {j} {v} h. nothing i r q (aux v j) (lowest-has (λ v. holds (partOf cleared) i r q (aux v j)) v h);
-        no-sentVal = λ {i} {r} {q} {v} h. nothing i r q (saidVal v) h;
-        no-sentAux = λ {i} {r} {q} {v} h. nothing i r q (saidAux v) (lowest-has (λ v. holds (partOf cleared) i r q (saidAux v)) v h);
-        no-adm = λ {i} {r} {q} {v} h. nothing i r q (admits v) h;
-        no-saw = none-seen;
-      });
-      stands = stands-first;
-      proposed = λ i v d. let e = given-is d in cc;
-    };
-  }
+use Rattle.safety.proofs.Marks.{saidIn, spoken, marked}
 
 -- ---- How much a host says
 
@@ -181,7 +102,7 @@ module _ (bytes : List ℕ) (run : Run) (started : starting bytes ≡ accepted r
   table = after run cleared ps .1
 
   abbrev z : Sized (run .world)
-  z = started-sized bytes started
+  z = size-of bytes run started few
 
   x : Fair run z few now table
   x = fair-run run z few run cleared ps (fair-first bytes run started few)
@@ -223,8 +144,36 @@ module _ (bytes : List ℕ) (run : Run) (started : starting bytes ≡ accepted r
     whole = λ i h. ne-eqb _ 2 (x .voted .stands i (honest-in run z few i h) .whole);
   }
 
--- DEMAND 3. For every byte string whose header and host records are accepted, with at most t liars among its hosts, after any number of its
--- events, refused ones included
-pub safety : (bytes : List ℕ) (run : Run) → starting bytes ≡ accepted run → liars run ≤ run .world .t → (k : ℕ)
-    → Safe run (after run cleared (take k (pieces (restBy bytes (accepted run)))) .0) (broadcasts run cleared (take k (pieces (restBy bytes (accepted run)))))
-safety bytes run started few k = safe-after bytes run started few (take k (pieces (restBy bytes (accepted run))))
+-- demand 3
+pub always-safe : AlwaysSafe
+always-safe bytes run started few k = safe-after bytes run started few (events k bytes run)
+
+-- ---- What follows
+
+over-most : (k m : ℕ) (f : ℕ → ℕ) → ((r : ℕ) → f r ≤ m) → overRounds k f ≤ k * m
+unfolding overRounds
+over-most zero m f l = omega arith
+over-most (suc k) m f l = omega (arith, over-most k m f l, l (suc k))
+
+-- the sent count of an honest host stays below its upper end: no turn of it is refused by 13
+pub sent-most : {first now : Run} {frames : ℕ → List Frame} → Safe first now frames → (i : ℕ) → Honest first i → hostAt now i .sent ≤ 192
+sent-most {frames = frames} s i h = rw (s .sent i h) (over-most 16 12 (λ r. inRound r (frames i)) (λ r. s .twelve i r h))
+
+-- a run that is started
+started-is : (bytes : List ℕ) (s : Started) {w : World} → Starts bytes s → headerSays (s .answer) ≡ accepted w → starting bytes ≡ accepted (s .run)
+started-is bytes s {w} p q = go (starting bytes) p
+  where
+    go : (a : Answer Run) → _≡_ {A = Answer World × Run} (headerSays (s .answer), s .run) (besideIt a) → a ≡ accepted (s .run)
+    go (refused k) e = absurd (not-both (sym (ap (λ x. x .0) e) ∙ q) refl)
+    go (accepted run) e = ap {B = Answer Run} accepted (sym (ap (λ x. x .1) e))
+
+-- the same of the calls, by their promises: the run that `start` answers, with any bytes of events, those that `rest` hands back among them,
+-- played by `play` from a cleared table and called again after each refused event until the bytes end
+pub calls-safe : (bytes : List ℕ) (s : Started) {w : World} → Starts bytes s → headerSays (s .answer) ≡ accepted w → liars (s .run) ≤ s .run .world .t
+    → (part : List ℕ) → Safe (s .run) (replaying (suc (length part)) (s .run) cleared part .0) (broadcasts (s .run) cleared (pieces part))
+calls-safe bytes s p q few part =
+    let started = started-is bytes s p q in
+    let (n, t) = started-world bytes started in
+    let long : ltb (length cleared) 14336 ≡ false = refl in
+    rw (replaying-after (suc (length part)) (s .run) cleared part (long, (n, (t, tt))) (omega arith))
+    (safe-after bytes (s .run) started few (pieces part))

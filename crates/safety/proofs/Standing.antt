@@ -10,7 +10,7 @@ use Rattle.host.specs.declared.Host.{Host}
 use Rattle.view.specs.View.{onlyOf, afterView}
 use Rattle.view.proofs.Views.{only-zero, only-one, only-neither, only-low, first-own, phase-follows, single-estimate, coin-estimate}
 use Rattle.view.proofs.Views.{round-follows, round-ends, seen-estimate, decides-only, decision-stays}
-use Rattle.safety.proofs.Votes.{Val, v0, v1, neither, Phase, phase1, phase2, Slot, stage0, stage1, Bit, View, Only, Vote, History, saw, Grows, Sound, not-both}
+use Rattle.safety.proofs.Votes.{Val, v0, v1, neither, Phase, phase1, phase2, stage0, stage1, Bit, View, Only, Vote, History, saw, Grows, Sound}
 use Rattle.safety.proofs.Phases.{In, same, mixed, single, toss, seen, kept, in-mono, Decided, in-bit}
 use Rattle.safety.proofs.Reading.{num, valOf, phaseOf, slotAt}
 

@@ -9,7 +9,7 @@ use mathlib.Core.Logic.{_⊎_, inl, inr, ⊎-elim}
 use native.Mathlib.Omega.{arith}
 use Rattle.quorum.specs.Count.{one, count}
 use Rattle.quorum.proofs.Honest.{one-honest, shared-honest}
-use Rattle.safety.proofs.Votes.{Val, v0, v1, neither, Slot, View, Vote, Honest, History, Fact, made, saw, Grows, Add, old, new, Rule, Sound, NotThree, NotTwo}
+use Rattle.safety.proofs.Votes.{Val, v0, v1, neither, Slot, View, Vote, Honest, History, saw, Grows, Add, old, new, Rule, Sound, NotThree, NotTwo}
 
 -- What hosts hold and have said, by host, round and instance; and what has happened.
 -- val i r q v j: at host i, j counts as a sender of VAL v. sentVal j r q v: j has said VAL v, to all. (Said: by a frame of its own, or by TERM.)

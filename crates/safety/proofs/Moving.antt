@@ -28,7 +28,7 @@ use Rattle.turn.proofs.Viewers.{heard-means, heard-when, viewer-heard, view-val
 use Rattle.turn.proofs.Within.{chosen-in}
 use Rattle.run.specs.Playing.{recordAfter}
 use Rattle.safety.proofs.Votes.{Val, phase1, Slot, stage0, View, Vote, Honest, History, made, saw, Add, old, new, Sound}
-use Rattle.safety.proofs.Steps.{Viewed, Reached, step, admits as allows, inv, sound, step-saw}
+use Rattle.safety.proofs.Steps.{Viewed, Reached, step, allows, inv, sound, step-saw}
 use Rattle.safety.proofs.Phases.{phases, In}
 use Rattle.safety.proofs.Outcome.{never-split}
 use Rattle.safety.proofs.Reading.{num, valOf, num-val, num-low, inst, inst-of, inst-at, slotOf, phaseOf, slotAt, Item, val, aux, saidVal, admits, saidAux, begun, at, bit, Words, fits, holds, holds-parts, holds-when, fits-low, low-fits, lowest-has, says}
@@ -214,7 +214,7 @@ module _ (C : Vote) (proposal : ℕ → Val) (w : World) (same-n : w .n ≡ C .n
 
     grown : Reached C (phases C) (says T D₁)
     unfolding says
-    grown = step (z .reached) (step-saw C (phases C) (says T (z .hist)) i r₀ q₀ (viewed view) seen-by)
+    grown = step (z .reached) (step-saw C (phases C) (says T (z .hist)) (says T (z .hist)) i r₀ q₀ (viewed view) seen-by)
 
     sound-then : Sound D₁ (In C D₁)
     unfolding says

@@ -97,7 +97,6 @@ module _ (bytes : List ℕ) (run : Run) (started : starting bytes ≡ accepted r
         no-val = λ {i} {r} {q} {v} {j} h. nothing i r q (val v j) h;
         no-aux = λ {i} {r} {q} {j} {v} h. nothing i r q (aux v j) (lowest-has (λ v. holds (partOf cleared) i r q (aux v j)) v h);
         no-sentVal = λ {i} {r} {q} {v} h. nothing i r q (saidVal v) h;
-        no-sentAux = λ {i} {r} {q} {v} h. nothing i r q (saidAux v) (lowest-has (λ v. holds (partOf cleared) i r q (saidAux v)) v h);
         no-adm = λ {i} {r} {q} {v} h. nothing i r q (admits v) h;
         no-saw = none-seen;
       });

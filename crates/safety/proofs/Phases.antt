@@ -1,5 +1,6 @@
 -- The rule of two phases to a round, and its theorems, from histories alone: no two decisions differ, each is a proposal, an instance is never
--- entered with three values, and with equal proposals with one. The paper's Lemmas 1 to 6. Assumes nothing.
+-- entered with three values, and with equal proposals with one. The paper's Lemmas 1
+-- to 3. Assumes nothing.
 use Prim.Native.Nat.{ℕ, zero, suc, _+_, _-_, _≤_, _<_, zero-le}
 use mathlib.Core.Path.{_≡_, refl, sym, _∙_}
 use mathlib.Core.Bool.{Bool, true, false, false≢true}
@@ -8,7 +9,10 @@ use native.Mathlib.Nat.{zero-add}
 use native.Mathlib.Omega.{arith}
 use Rattle.safety.proofs.Votes.{Val, v0, v1, neither, Phase, phase1, phase2, Slot, stage0, stage1, Bit, View, Only, Vote, Honest, History, made, saw, Grows, Made, Equal, Rule, Sound, NotThree, NotTwo, not-both, not-bit}
 
--- The own value with which a host enters an instance.
+-- ---- The rule
+
+-- with which own value a host may enter an instance, a constructor for each sentence of "After the view". The last one says more than document
+-- 01: a host that has decided v may be taken to enter every later instance with v, whatever else it does there. The theorems hold all the same.
 pub data In (C : Vote) (D : History) : ℕ → ℕ → Slot → Val → Type 0 where
   first : {i : ℕ} {v : Val} → Honest C i → Bit v → D i (made v) → In C D i 0 (stage0 phase1) v
   same : {i r : ℕ} {p : Phase} {W : View} {v : Val} → D i (saw r (stage0 p) W) → Only W v → In C D i r (stage1 p) v
@@ -17,7 +21,7 @@ pub data In (C : Vote) (D : History) : ℕ → ℕ → Slot → Val → Type 0 w
   toss : {i r : ℕ} {W : View} → D i (saw r (stage1 phase1) W) → ((v : Val) → Bit v → Only W v → ⊥) → In C D i r (stage0 phase2) (C .coin i r)
   seen : {i r : ℕ} {W : View} {v : Val} → D i (saw r (stage1 phase2) W) → Bit v → W v ≡ true → In C D i (suc r) (stage0 phase1) v
   kept : {i r : ℕ} {W : View} {v : Val} → D i (saw r (stage1 phase2) W) → Only W neither → In C D i r (stage0 phase2) v → In C D i (suc r) (stage0 phase1) v
-  halted : {i r k : ℕ} {q : Slot} {W : View} {v : Val} → D i (saw k (stage1 phase2) W) → Bit v → Only W v → k < r → In C D i r q v
+  decided : {i r k : ℕ} {q : Slot} {W : View} {v : Val} → D i (saw k (stage1 phase2) W) → Bit v → Only W v → k < r → In C D i r q v
 
 pub in-mono : {C : Vote} {i r : ℕ} {q : Slot} {v : Val} (D E : History) → Grows D E → In C D i r q v → In C E i r q v
 in-mono D E k (first h b d) = first h b (k _ _ d)
@@ -27,7 +31,7 @@ in-mono D E k (single d b o) = single (k _ _ d) b o
 in-mono D E k (toss d f) = toss (k _ _ d) f
 in-mono D E k (seen d b x) = seen (k _ _ d) b x
 in-mono D E k (kept d o x) = kept (k _ _ d) o (in-mono D E k x)
-in-mono D E k (halted d b o l) = halted (k _ _ d) b o l
+in-mono D E k (decided d b o l) = decided (k _ _ d) b o l
 
 abbrev pub phases : Vote → Rule
 phases C = record { Enters = In C; keeps = λ D E k i r q v z. in-mono D E k z }
@@ -40,8 +44,10 @@ pub record Decided (D : History) (i : ℕ) (v : Val) : Type 0 where
   pub bit : Bit v
   pub only : Only view v
 
+-- ---- What is passed on from instance to instance
+
 -- every host that enters the instance enters it with a value of P
-abbrev pub All : Vote → History → ℕ → Slot → (Val → Type 0) → Type 0
+abbrev All : Vote → History → ℕ → Slot → (Val → Type 0) → Type 0
 All C D r q P = (i : ℕ) (w : Val) → In C D i r q w → P w
 
 -- a property of values that the rules pass on
@@ -57,19 +63,19 @@ module _ (C : Vote) (D : History) (S : Sound D (In C D)) where
     all-stage1 : {r : ℕ} {p : Phase} → All C D r (stage0 p) P → All C D r (stage1 p) P
     all-stage1 a i w (same d o) = view-all {P = P} a d (o .0)
     all-stage1 a i w (mixed d x y) = K .mix (view-all {P = P} a d x) (view-all {P = P} a d y)
-    all-stage1 a i w (halted d b o l) = a i w (halted d b o l)
+    all-stage1 a i w (decided d b o l) = a i w (decided d b o l)
 
     all-phase2 : {r : ℕ} → All C D r (stage1 phase1) P → All C D r (stage0 phase2) P
     all-phase2 a i w (single d b o) = view-all {P = P} a d (o .0)
     all-phase2 a i w (toss {r} {W} d f) = let (x, h, _) = S .meet d d in K .coin i r W x h (λ w g. view-all {P = P} a d g) f
-    all-phase2 a i w (halted d b o l) = a i w (halted d b o l)
+    all-phase2 a i w (decided d b o l) = a i w (decided d b o l)
 
     all-next : {r : ℕ} → All C D r (stage0 phase2) P → All C D r (stage1 phase2) P → All C D (suc r) (stage0 phase1) P
     all-next a₀ a i w (seen d b h) = view-all {P = P} a d h
     all-next a₀ a i w (kept d o x) = a₀ i w x
-    all-next {r} a₀ a i w (halted {k} d b o l) =
+    all-next {r} a₀ a i w (decided {k} d b o l) =
         elim (decLt k r) [
-          | yes g ↦ a i w (halted d b o g)
+          | yes g ↦ a i w (decided d b o g)
           | no g ↦ let e : k ≡ r = omega arith in view-all {P = P} a (rw e at d) (o .0)
         ]
 
@@ -89,6 +95,8 @@ module _ (C : Vote) (D : History) (S : Sound D (In C D)) where
     -- what all have once, all have for ever
     all-from : {r s : ℕ} → r ≤ s → All C D r (stage0 phase1) P → (q : Slot) → All C D s q P
     all-from {r} {s} l a = let e : (s - r) + r ≡ s = omega arith in all-slot (rw e at (all-later r (s - r) a))
+
+  -- ---- Agreement
 
   -- to be v is passed on
   is-closed : (v : Val) → Bit v → Closed C (λ w. w ≡ v)
@@ -110,9 +118,9 @@ module _ (C : Vote) (D : History) (S : Sound D (In C D)) where
     one-bit : {i j : ℕ} {p : Phase} {v w : Val} → In C D i r (stage1 p) v → In C D j r (stage1 p) w → Bit v → Bit w → v ≡ w
     one-bit (same d o) (same e u) b c = let (x, h, g) = S .meet d e in sym (o .1 x h) ∙ u .1 x g
     one-bit (same d o) (mixed _ _ _) b c = absurd c
-    one-bit (same d o) (halted e c u l) _ _ = late l e c u (stage1 _) _ _ (same d o)
+    one-bit (same d o) (decided e c u l) _ _ = late l e c u (stage1 _) _ _ (same d o)
     one-bit (mixed _ _ _) z b c = absurd b
-    one-bit (halted d b o l) z _ _ = sym (late l d b o (stage1 _) _ _ z)
+    one-bit (decided d b o l) z _ _ = sym (late l d b o (stage1 _) _ _ z)
 
     mutex : {i j : ℕ} {p : Phase} {v w : Val} {W X : View} → D i (saw r (stage1 p) W) → D j (saw r (stage1 p) X) → Bit v → Bit w → W v ≡ true → X w ≡ true → v ≡ w
     mutex d e b c h g = one-bit (S .just d h .1) (S .just e g .1) b c
@@ -121,7 +129,7 @@ module _ (C : Vote) (D : History) (S : Sound D (In C D)) where
     lock _ v W d b o i w (seen e c h) = mutex e d c b h (o .0)
     lock _ v W d b o i w (kept e u _) =
         let (x, h, g) = S .meet d e in absurd (not-bit v (sym (o .1 x h) ∙ u .1 x g) b)
-    lock _ v W d b o i w (halted {k} e c u l) =
+    lock _ v W d b o i w (decided {k} e c u l) =
         elim (decLt k r) [
           | yes g ↦ sym (view-all {P = λ x. x ≡ w} (late g e c u (stage1 phase2)) d (o .0))
           | no g ↦ let x : k ≡ r = omega arith in mutex (rw x at e) d c b (u .0) (o .0)
@@ -146,7 +154,7 @@ module _ (C : Vote) (D : History) (S : Sound D (In C D)) where
   agree-same : {i j : ℕ} {v w : Val} (d : Decided D i v) (e : Decided D j w) → d .round ≡ e .round → w ≡ v
   agree-same d e l = mutex _ (locks _) (e .done) (rw l at (d .done)) (e .bit) (d .bit) (e .only .0) (d .only .0)
 
-  -- NO TWO HOSTS DECIDE DIFFERENTLY
+  -- no two hosts decide differently [the paper's Lemma 3]
   pub agreement : {i j : ℕ} {v w : Val} → Decided D i v → Decided D j w → w ≡ v
   agreement d e =
       elim (decLt (d .round) (e .round)) [
@@ -157,7 +165,9 @@ module _ (C : Vote) (D : History) (S : Sound D (In C D)) where
         ]
       ]
 
-  -- EVERY DECISION IS A PROPOSAL: to come from proposals is passed on
+  -- ---- Validity
+
+  -- to come from honest proposals is passed on
   abbrev From : Val → Type 0
   From v0 = Made C D v0
   From v1 = Made C D v1
@@ -209,13 +219,16 @@ module _ (C : Vote) (D : History) (S : Sound D (In C D)) where
 
   from-first : All C D 0 (stage0 phase1) From
   from-first i w (first h b d) = from-made w b (record { host = i; honest = h; said = d })
-  from-first i w (halted d b o l) = absurd (omega arith)
+  from-first i w (decided d b o l) = absurd (omega arith)
 
+  -- every decision is an honest proposal [Lemma 1]
   pub validity : (i : ℕ) (v : Val) → Decided D i v → Made C D v
   validity i v d = made-from v (d .bit) (view-all {P = From} (all-from From from-closed zero-le from-first (stage1 phase2)) (d .done) (d .only .0))
 
-  -- WITH EQUAL PROPOSALS ALL ENTER EVERY INSTANCE WITH A PROPOSAL
-  abbrev pub Backed : Val → Type 0
+  -- ---- Equal proposals
+
+  -- to be 0 or 1 and an honest proposal is passed on where no two honest proposals differ [Lemma 2]
+  abbrev Backed : Val → Type 0
   Backed v = Bit v × Made C D v
 
   back-closed : Equal C D → Closed C Backed
@@ -226,29 +239,24 @@ module _ (C : Vote) (D : History) (S : Sound D (In C D)) where
 
   back-first : All C D 0 (stage0 phase1) Backed
   back-first i w (first h b d) = (b, record { host = i; honest = h; said = d })
-  back-first i w (halted d b o l) = absurd (omega arith)
+  back-first i w (decided d b o l) = absurd (omega arith)
 
-  pub equal-all : Equal C D → (r : ℕ) (q : Slot) → All C D r q Backed
+  equal-all : Equal C D → (r : ℕ) (q : Slot) → All C D r q Backed
   equal-all e r q = all-from Backed (back-closed e) zero-le back-first q
 
   pub equal-two : Equal C D → (r : ℕ) (q : Slot) → NotTwo (In C D) r q
   equal-two e r q i j v w x y = e v w (equal-all e r q i v x .1) (equal-all e r q j w y .1)
 
-  -- and a view of it is of that value alone
-  pub equal-view : Equal C D → {i r : ℕ} {q : Slot} {W : View} → D i (saw r q W) → (v : Val) × Backed v × Only W v
-  equal-view e {r} {q} {W} d =
-      let (x, h, _) = S .meet d d in
-      let f : (w : Val) → W w ≡ true → Backed w = λ w g. view-all {P = Backed} (equal-all e r q) d g in
-      (x, f x h, (h, λ w g. e w x (f w g .1) (f x h .1)))
+  -- ---- How many values an instance has
 
-  -- for the frames: what hosts enter a stage 0 with is 0 or 1
+  -- what hosts enter a stage 0 with is 0 or 1
   pub in-bit : {i r : ℕ} {p : Phase} {v : Val} → In C D i r (stage0 p) v → Bit v
   in-bit (first _ b _) = b
   in-bit (single _ b _) = b
   in-bit (toss {i} {r} _ _) = C .coin-bit i r
   in-bit (seen _ b _) = b
   in-bit (kept _ _ x) = in-bit x
-  in-bit (halted _ b _ _) = b
+  in-bit (decided _ b _ _) = b
 
   -- no instance is entered with three values
   pub not-three : (r : ℕ) (q : Slot) → NotThree (In C D) r q

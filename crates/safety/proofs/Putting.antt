@@ -27,7 +27,7 @@ module _ (C : Vote) (D : History) (T : Words) (Z : Tidy C T) where
   unfolding says
   aux-is i r q j v h = lowest-is (λ v. holds T i r q (aux v j)) v (Z .aux-one i r q j) h
 
-  pub said-is : (i r : ℕ) (q : Slot) (v : Val) → holds T i r q (saidAux v) ≡ true → says T D .sentAux i r q ≡ some v
+  said-is : (i r : ℕ) (q : Slot) (v : Val) → holds T i r q (saidAux v) ≡ true → says T D .sentAux i r q ≡ some v
   unfolding says
   said-is i r q v h = lowest-is (λ v. holds T i r q (saidAux v)) v (Z .said-one i r q) h
 

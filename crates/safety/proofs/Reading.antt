@@ -27,11 +27,6 @@ valOf zero = v0
 valOf (suc zero) = v1
 valOf (suc (suc k)) = neither
 
-pub val-num : (v : Val) → valOf (num v) ≡ v
-val-num v0 = refl
-val-num v1 = refl
-val-num neither = refl
-
 pub num-val : (k : ℕ) → k < 3 → num (valOf k) ≡ k
 num-val zero l = refl
 num-val (suc zero) l = refl

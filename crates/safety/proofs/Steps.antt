@@ -1,6 +1,5 @@
--- Runs of the vote: what the hosts hold, the steps that they may take, and what holds after any number of steps, for any rule R.
--- A step is described by what it may add: nothing is forgotten, and each new fact has its reason.
--- Assumes nothing.
+-- The steps of a vote, for any rule: what the hosts hold, what a step may add to it and for which reason, and what holds after any number of
+-- steps. Which AUX a host sends and which proposals are made is left open. Assumes nothing.
 use Prim.Native.Nat.{ℕ, _+_, _*_, _≤_, _<_}
 use mathlib.Core.Path.{_≡_, refl}
 use mathlib.Core.Bool.{Bool, true, false, false≢true}
@@ -11,8 +10,10 @@ use Rattle.quorum.specs.Count.{one, count}
 use Rattle.quorum.proofs.Honest.{one-honest, shared-honest}
 use Rattle.safety.proofs.Votes.{Val, v0, v1, neither, Slot, View, Vote, Honest, History, saw, Grows, Add, old, new, Rule, Sound, NotThree, NotTwo}
 
--- What hosts hold and have said, by host, round and instance; and what has happened.
--- val i r q v j: at host i, j counts as a sender of VAL v. sentVal j r q v: j has said VAL v, to all. (Said: by a frame of its own, or by TERM.)
+-- ---- States
+
+-- what each host holds of an instance, and what has happened. At host i, sender j counts for VAL v; its AUX; i has said VAL v; the AUX that i has
+-- said; i has admitted v.
 pub record State : Type 1 where
   pub val : ℕ → ℕ → Slot → Val → ℕ → Bool
   pub aux : ℕ → ℕ → Slot → ℕ → Option Val
@@ -21,14 +22,14 @@ pub record State : Type 1 where
   pub adm : ℕ → ℕ → Slot → Val → Bool
   pub hist : History
 
--- the value of a recorded AUX is admitted; no AUX, no
-abbrev pub admits : (Val → Bool) → Option Val → Bool
-admits A none = false
-admits A (some v) = A v
+-- the value of a sender's AUX is admitted; where there is no AUX it is not
+abbrev pub allows : (Val → Bool) → Option Val → Bool
+allows A none = false
+allows A (some v) = A v
 
--- at least n - t recorded AUX are of admitted values
+-- at least n−t senders' AUX are of admitted values
 abbrev pub Enough : Vote → State → ℕ → ℕ → Slot → Type 0
-Enough C s i r q = C .n ≤ C .t + count (C .n) (λ j. admits (s .adm i r q) (s .aux i r q j))
+Enough C s i r q = C .n ≤ C .t + count (C .n) (λ j. allows (s .adm i r q) (s .aux i r q j))
 
 -- W is the view of the instance: the values of all those AUX
 pub record Viewed (C : Vote) (s : State) (i r : ℕ) (q : Slot) (W : View) : Type 0 where
@@ -36,13 +37,15 @@ pub record Viewed (C : Vote) (s : State) (i r : ℕ) (q : Slot) (W : View) : Typ
   pub from : {v : Val} → W v ≡ true → (j : ℕ) × (s .aux i r q j ≡ some v) × (s .adm i r q v ≡ true)
   pub all : {j : ℕ} {v : Val} → j < C .n → s .aux i r q j ≡ some v → s .adm i r q v ≡ true → W v ≡ true
 
--- A step from s to s′. Echoes, admissions and views are judged by c: what counts. Here c is s; with TERM, s is the frames alone and c counts TERM too.
+-- ---- Steps
+
+-- from s to s′. What counts for echoes, admissions and views is judged by c, which in a run is s itself.
 pub record Step (C : Vote) (R : Rule) (c s s′ : State) : Type 0 where
   -- nothing said or done is taken back
   pub keep-sentVal : {i r : ℕ} {q : Slot} {v : Val} → s .sentVal i r q v ≡ true → s′ .sentVal i r q v ≡ true
   pub keep-sentAux : {i r : ℕ} {q : Slot} {v : Val} → s .sentAux i r q ≡ some v → s′ .sentAux i r q ≡ some v
   pub keep-hist : Grows (s .hist) (s′ .hist)
-  -- what counts as an honest sender's was said by it before; a liar's may be anything
+  -- what arrives from an honest sender was said by it; from a liar anything may
   pub new-val : {i r : ℕ} {q : Slot} {v : Val} {j : ℕ} → s′ .val i r q v j ≡ true
       → (s .val i r q v j ≡ true) ⊎ (C .honest j ≡ true → s .sentVal j r q v ≡ true)
   pub new-aux : {i r : ℕ} {q : Slot} {j : ℕ} {v : Val} → s′ .aux i r q j ≡ some v
@@ -50,10 +53,10 @@ pub record Step (C : Vote) (R : Rule) (c s s′ : State) : Type 0 where
   -- an honest host says the VAL of a value with which it enters, or of one that more than t hosts sent it
   pub new-sentVal : {i r : ℕ} {q : Slot} {v : Val} → Honest C i → s′ .sentVal i r q v ≡ true
       → (s .sentVal i r q v ≡ true) ⊎ (R .Enters (s′ .hist) i r q v ⊎ (C .t < count (C .n) (c .val i r q v)))
-  -- it admits what more than 2t hosts sent it
+  -- it allows what more than 2t hosts sent it
   pub new-adm : {i r : ℕ} {q : Slot} {v : Val} → s′ .adm i r q v ≡ true
       → (s .adm i r q v ≡ true) ⊎ (2 * C .t < count (C .n) (c .val i r q v))
-  -- it completes an instance with its view. (Proposals are free, and so is which AUX it sends.)
+  -- it completes an instance with its view
   pub new-saw : {i r : ℕ} {q : Slot} {W : View} → s′ .hist i (saw r q W) → s .hist i (saw r q W) ⊎ Viewed C c i r q W
 
 -- nothing has happened yet, but for proposals
@@ -61,26 +64,29 @@ pub record Start (s : State) : Type 0 where
   pub no-val : {i r : ℕ} {q : Slot} {v : Val} {j : ℕ} → s .val i r q v j ≡ true → ⊥
   pub no-aux : {i r : ℕ} {q : Slot} {j : ℕ} {v : Val} → s .aux i r q j ≡ some v → ⊥
   pub no-sentVal : {i r : ℕ} {q : Slot} {v : Val} → s .sentVal i r q v ≡ true → ⊥
-  pub no-sentAux : {i r : ℕ} {q : Slot} {v : Val} → s .sentAux i r q ≡ some v → ⊥
   pub no-adm : {i r : ℕ} {q : Slot} {v : Val} → s .adm i r q v ≡ true → ⊥
   pub no-saw : {i r : ℕ} {q : Slot} {W : View} → s .hist i (saw r q W) → ⊥
 
+-- what steps reach
 pub data Reached (C : Vote) (R : Rule) : State → Type 1 where
   start : {s : State} → Start s → Reached C R s
   step : {s s′ : State} → Reached C R s → Step C R s s s′ → Reached C R s′
 
--- n - t hosts, of which the honest have said an AUX of a value of W
+-- ---- What every step keeps
+
+-- n−t hosts, of which the honest have said an AUX of a value of W
 abbrev pub Quorum : Vote → State → ℕ → Slot → View → Type 0
 Quorum C s r q W =
     (p : ℕ → Bool)
     × (C .n ≤ C .t + count (C .n) p)
     × ((j : ℕ) → j < C .n → p j ≡ true → C .honest j ≡ true → (v : Val) × (s .sentAux j r q ≡ some v) × (W v ≡ true))
 
--- some honest host enters with v
+-- some host enters with v
 abbrev pub Entered : Rule → History → ℕ → Slot → Val → Type 0
 Entered R D r q v = (k : ℕ) × R .Enters D k r q v
 
--- what holds of every state that is reached
+-- what is held of an honest sender it has said; what an honest host has said, what is admitted and what a view holds is an own value of some
+-- host; a view has its quorum
 pub record Inv (C : Vote) (R : Rule) (s : State) : Type 0 where
   pub val-sent : {i r : ℕ} {q : Slot} {v : Val} {j : ℕ} → s .val i r q v j ≡ true → C .honest j ≡ true → s .sentVal j r q v ≡ true
   pub aux-sent : {i r : ℕ} {q : Slot} {j : ℕ} {v : Val} → s .aux i r q j ≡ some v → C .honest j ≡ true → s .sentAux j r q ≡ some v
@@ -89,9 +95,9 @@ pub record Inv (C : Vote) (R : Rule) (s : State) : Type 0 where
   pub saw-in : {i r : ℕ} {q : Slot} {W : View} {v : Val} → s .hist i (saw r q W) → W v ≡ true → Entered R (s .hist) r q v
   pub quorum : {i r : ℕ} {q : Slot} {W : View} → s .hist i (saw r q W) → Quorum C s r q W
 
-pub admits-some : (A : Val → Bool) (o : Option Val) → admits A o ≡ true → (v : Val) × (o ≡ some v) × (A v ≡ true)
-admits-some A none h = absurd (false≢true h)
-admits-some A (some v) h = (v, refl, h)
+allowed-value : (A : Val → Bool) (o : Option Val) → allows A o ≡ true → (v : Val) × (o ≡ some v) × (A v ≡ true)
+allowed-value A none h = absurd (false≢true h)
+allowed-value A (some v) h = (v, refl, h)
 
 module _ (C : Vote) (R : Rule) (s s′ : State) (m : Step C R s s s′) (I : Inv C R s) where
   in-keep : {r : ℕ} {q : Slot} {v : Val} → Entered R (s .hist) r q v → Entered R (s′ .hist) r q v
@@ -124,10 +130,10 @@ module _ (C : Vote) (R : Rule) (s s′ : State) (m : Step C R s s s′) (I : Inv
       ⊎-elim
       (λ x. let (p, c, f) = I .quorum x in (p, c, λ j l e g. let (v, a, b) = f j l e g in (v, m .keep-sentAux a, b)))
       (λ w. (
-        (λ j. admits (s .adm i r q) (s .aux i r q j)),
+        (λ j. allows (s .adm i r q) (s .aux i r q j)),
         w .enough,
         λ j l e g.
-            let (v, a, b) = admits-some (s .adm i r q) (s .aux i r q j) e in (v, m .keep-sentAux (I .aux-sent a g), w .all l a b),
+            let (v, a, b) = allowed-value (s .adm i r q) (s .aux i r q j) e in (v, m .keep-sentAux (I .aux-sent a g), w .all l a b),
       ))
       (m .new-saw d)
 
@@ -144,9 +150,12 @@ inv-start C R s z = record {
   quorum = λ d. absurd (z .no-saw d);
 }
 
+-- every state that is reached has it
 pub inv : {C : Vote} {R : Rule} {s : State} → Reached C R s → Inv C R s
 inv {C} {R} {s} (start z) = inv-start C R s z
 inv {C} {R} {s = s′} (step {s} x m) = inv-step C R s s′ m (inv x)
+
+-- ---- What a rule's theorems use
 
 quorums-meet : (C : Vote) (s : State) (r : ℕ) (q : Slot) (W X : View) → Quorum C s r q W → Quorum C s r q X → (v : Val) × (W v ≡ true) × (X v ≡ true)
 quorums-meet C s r q W X (p, c, f) (p′, c′, f′) =
@@ -156,6 +165,7 @@ quorums-meet C s r q W X (p, c, f) (p′, c′, f′) =
     let z : v′ ≡ v = cc in
     (v, h, rw z at h′)
 
+-- two views share the value that an honest host of both quorums said; each value of a view is some host's own
 pub sound : {C : Vote} {R : Rule} {s : State} → Inv C R s → Sound (s .hist) (R .Enters (s .hist))
 sound {C} {R} {s} I = record {
   meet = λ {i} {j} {r} {q} {W} {X} d e. quorums-meet C s r q W X (I .quorum d) (I .quorum e);
@@ -200,28 +210,27 @@ module _ {C : Vote} {R : Rule} {s : State} (I : Inv C R s) (i r : ℕ) (q : Slot
   pub says-one : NotTwo (R .Enters (s .hist)) r q → several (s .sentVal i r q) ≤ 1
   says-one f = several-one (s .sentVal i r q) (λ v w a b. f _ _ v w (I .sent-in g a .1) (I .sent-in g b .1))
 
--- The history alone grows: by a view, or by proposals.
+-- ---- A view
+
+-- the same words with another history
 abbrev pub grow : State → History → State
 grow s D = record { val = s .val; aux = s .aux; sentVal = s .sentVal; sentAux = s .sentAux; adm = s .adm; hist = D }
 
-pub step-grow : (C : Vote) (R : Rule) (s : State) (D : History) → Grows (s .hist) D
-    → ((i r : ℕ) (q : Slot) (W : View) → D i (saw r q W) → s .hist i (saw r q W) ⊎ Viewed C s i r q W) → Step C R s s (grow s D)
-step-grow C R s D k f = record {
+saw-cases : (C : Vote) (c s : State) (i r : ℕ) (q : Slot) (W : View) → Viewed C c i r q W
+    → (a b : ℕ) (p : Slot) (X : View) → Add (s .hist) i (saw r q W) a (saw b p X) → s .hist a (saw b p X) ⊎ Viewed C c a b p X
+saw-cases C c s i r q W w a b p X (old d) = inl d
+saw-cases C c s i r q W w a b p X new = inr w
+
+-- a host completes an instance
+pub step-saw : (C : Vote) (R : Rule) (c s : State) (i r : ℕ) (q : Slot) (W : View) → Viewed C c i r q W
+    → Step C R c s (grow s (Add (s .hist) i (saw r q W)))
+step-saw C R c s i r q W w = record {
   keep-sentVal = λ h. h;
   keep-sentAux = λ h. h;
-  keep-hist = k;
+  keep-hist = λ _ _. old;
   new-val = inl;
   new-aux = inl;
   new-sentVal = λ _. inl;
   new-adm = inl;
-  new-saw = λ {i} {r} {q} {W} d. f i r q W d;
+  new-saw = λ {i = a} {r = b} {q = p} {W = X} d. saw-cases C c s i r q W w a b p X d;
 }
-
-pub saw-cases : (C : Vote) (s : State) (i r : ℕ) (q : Slot) (W : View) → Viewed C s i r q W
-    → (a b : ℕ) (c : Slot) (X : View) → Add (s .hist) i (saw r q W) a (saw b c X) → s .hist a (saw b c X) ⊎ Viewed C s a b c X
-saw-cases C s i r q W w a b c X (old d) = inl d
-saw-cases C s i r q W w a b c X new = inr w
-
--- a host completes an instance
-pub step-saw : (C : Vote) (R : Rule) (s : State) (i r : ℕ) (q : Slot) (W : View) → Viewed C s i r q W → Step C R s s (grow s (Add (s .hist) i (saw r q W)))
-step-saw C R s i r q W w = step-grow C R s (Add (s .hist) i (saw r q W)) (λ _ _. old) (saw-cases C s i r q W w)

@@ -37,7 +37,8 @@ use Rattle.safety.specs.Demand.{liars, proposal}
 use Rattle.safety.proofs.Votes.{Val, Bit, Vote, Honest}
 use Rattle.safety.proofs.Reading.{valOf}
 use Rattle.safety.proofs.Standing.{Stand}
-use Rattle.safety.proofs.Moving.{Voted, voted-hosts, turn-voted}
+use Rattle.safety.proofs.Voted.{Voted, voted-hosts}
+use Rattle.safety.proofs.Moving.{turn-voted}
 use Rattle.safety.proofs.Hearing.{read-as, delivery-voted}
 
 -- ---- The vote of a run

@@ -21,7 +21,7 @@ use Rattle.delivery.proofs.Changes.{delivery-told, delivery-one-bit, first-aux}
 use Rattle.safety.proofs.Votes.{Val, Slot, Vote}
 use Rattle.safety.proofs.Reading.{num, valOf, num-val, inst, inst-at, slotAt, Item, val, aux, saidVal, saidAux, at, bit, Words, fits, holds, holds-parts, holds-when, fits-low}
 use Rattle.safety.proofs.Putting.{Put, Reason}
-use Rattle.safety.proofs.Moving.{Voted, voted-put}
+use Rattle.safety.proofs.Voted.{Voted, voted-put}
 
 -- a word that can be read says what `frameOf` says of it, and 9 does not refuse its value
 pub read-as : (word : ℕ) {f : Frame} → unpacking word ≡ accepted f → (f ≡ frameOf word) × (badValue (f .value) (f .stage) ≡ false)

@@ -5,6 +5,7 @@ pub mod Outcome
 pub mod Reading
 pub mod Putting
 pub mod Standing
+pub mod Voted
 pub mod Moving
 pub mod Hearing
 pub mod Events

@@ -15,10 +15,9 @@ use Rattle.quorum.specs.declared.World.{World}
 use Rattle.quorum.proofs.Adding.{members-count}
 use Rattle.quorum.proofs.Counting.{count-within}
 use Rattle.quorum.proofs.Reached.{echo-over, admit-over, view-over}
-use Rattle.host.specs.Words.{values, VAL, AUX, senders, marks, sentBit, begunBit, put, mark}
+use Rattle.host.specs.Words.{values, VAL, AUX, senders, marks, sentBit, admitBit, begunBit, mark}
 use Rattle.host.specs.Record.{finished, broken, lying, coin, sentOne, Valid}
 use Rattle.host.specs.declared.Host.{Host}
-use Rattle.host.proofs.Puts.{put-others, put-grows}
 use Rattle.view.specs.View.{afterView}
 use Rattle.turn.specs.Moves.{witnesses, viewers, heard, viewOf, current, chosen}
 use Rattle.turn.specs.Applying.{answered, markedBy}
@@ -31,63 +30,19 @@ use Rattle.safety.proofs.Votes.{Val, phase1, Slot, stage0, View, Vote, 
 use Rattle.safety.proofs.Steps.{Viewed, Reached, step, allows, inv, sound, step-saw}
 use Rattle.safety.proofs.Phases.{phases, In}
 use Rattle.safety.proofs.Outcome.{never-split}
-use Rattle.safety.proofs.Reading.{num, valOf, num-val, num-low, inst, inst-of, inst-at, slotOf, phaseOf, slotAt, Item, val, aux, saidVal, admits, saidAux, begun, at, bit, Words, fits, holds, holds-parts, holds-when, fits-low, low-fits, lowest-has, says}
-use Rattle.safety.proofs.Putting.{Tidy, aux-is, Put, Reason, put-tidy, put-step}
+use Rattle.safety.proofs.Reading.{num, valOf, num-val, num-low, inst, inst-of, inst-at, slotOf, phaseOf, slotAt, val, aux, saidVal, admits, saidAux, begun, at, Words, fits, holds, holds-parts, holds-when, fits-low, low-fits, lowest-has, says}
+use Rattle.safety.proofs.Putting.{aux-is, Reason}
 use Rattle.safety.proofs.Standing.{viewed, Stand, stand-mono, stand-after}
+use Rattle.safety.proofs.Voted.{Voted, voted-put, voted-hosts, stand-sent, put-one, put-none}
 
--- ---- What every event keeps
-
--- words T and records H that a vote with these proposals has reached, by some history by which the honest hosts stand as they do
-pub record Voted (C : Vote) (proposal : ℕ → Val) (T : Words) (H : ℕ → Host) : Type 1 where
-  pub hist : History
-  pub tidy : Tidy C T
-  pub reached : Reached C (phases C) (says T hist)
-  pub stands : (i : ℕ) → Honest C i → Stand C hist i (H i)
-  pub proposed : (i : ℕ) (v : Val) → hist i (made v) → proposal i ≡ v
-
-module _ {C : Vote} {proposal : ℕ → Val} {T : Words} {H : ℕ → Host} (z : Voted C proposal T H) where
-  -- one bit more, for its reason
-  pub voted-put : {U : Words} {i r : ℕ} {q : Slot} {x : Item} → Put T U i r q x → Reason C (phases C) (z .hist) T i r q x → Voted C proposal U H
-  voted-put P why = record {
-    hist = z .hist;
-    tidy = put-tidy C (phases C) (z .hist) (z .tidy) P why;
-    reached = step (z .reached) (put-step C (phases C) (z .hist) (z .tidy) P why);
-    stands = z .stands;
-    proposed = z .proposed;
-  }
-
-  -- other records of hosts that stand as before
-  pub voted-hosts : {G : ℕ → Host} → ((j : ℕ) → Stand C (z .hist) j (H j) → Stand C (z .hist) j (G j)) → Voted C proposal T G
-  voted-hosts f = record {
-    hist = z .hist;
-    tidy = z .tidy;
-    reached = z .reached;
-    stands = λ j g. f j (z .stands j g);
-    proposed = z .proposed;
-  }
-
--- a host with one frame more broadcast stands as before
-stand-sent : {C : Vote} {D : History} {i : ℕ} {h : Host} → Stand C D i h → Stand C D i (sentOne h)
-stand-sent z = record { own-in = z .own-in; est-in = z .est-in; dec-in = z .dec-in; whole = z .whole }
-
--- the words of one host with one bit more
-put-one : (T U : Words) (i r : ℕ) (q : Slot) (x : Item) → ((j : ℕ) → (j ≡ i → ⊥) → U j ≡ T j) → U i ≡ put (T i) (at (inst r q) x) (bit x) → Put T U i r q x
-put-one T U i r q x others e = record {
-  others = others;
-  grows = λ k b m. rw e (put-grows (T i) (at (inst r q) x) (bit x) k b m);
-  only = λ k b n. rw e (put-others (T i) (at (inst r q) x) (bit x) k b n);
-}
-
--- the words of one host as they were
-put-none : (T U : Words) (i : ℕ) → ((j : ℕ) → (j ≡ i → ⊥) → U j ≡ T j) → U i ≡ T i → Put T U i 0 (stage0 phase1) begun
-put-none T U i others e = record { others = others; grows = λ k b m. rw e m; only = λ k b n. rw e refl }
+-- ---- The moves
 
 -- other words for one host
 abbrev with : Words → ℕ → List ℕ → Words
 with T i words j = cond (eqb j i) words (T j)
 
--- ---- The moves
-
+-- a turn of host i, honest and in range: the words T before it and U after it, in which those of the other hosts are as they were, and the records H
+-- before it
 module _ (C : Vote) (proposal : ℕ → Val) (w : World) (same-n : w .n ≡ C .n) (same-t : w .t ≡ C .t) (T U : Words) (H : ℕ → Host) (i : ℕ)
     (g : Honest C i) (ranged : Valid (H i)) (others : (j : ℕ) → (j ≡ i → ⊥) → U j ≡ T j) (z : Voted C proposal T H) where
   -- what the turn chooses
@@ -103,22 +58,27 @@ module _ (C : Vote) (proposal : ℕ → Val) (w : World) (same-n : w .n ≡ C .n
       rw (members-count (C .n) set (λ j m. z .tidy .val-low i r q v j (heard j m)))
       (count-within (C .n) (member set) (λ j. holds T i r q (val v j)) (λ j _ m. heard j m))
 
-  echoed : (r : ℕ) (q : Slot) (v : Val) → r < 16 → pick ≡ Move.Echo (inst r q) (num v) → U i ≡ mark (T i) (inst r q) (sentBit VAL (num v)) → Voted C proposal U H
+  -- an echo: more than t hosts sent the value
+  echoed : (r : ℕ) (q : Slot) (v : Val) → r < 16 → pick ≡ Move.Echo (inst r q) (num v) → U i ≡ mark (T i) (inst r q) (sentBit VAL (num v))
+      → Voted C proposal U H
   unfolding Reason
   echoed r q v l e u =
       let f = low-fits r q v (echo-new (T i) (H i) (thresholdsOf w) (inst r q) (num v) e .0) in
       let many = echo-over w (witnesses (T i) (inst r q) (num v)) (echo-enough (T i) (H i) (thresholdsOf w) (inst r q) (num v) e) in
       voted-put z {r = r} {q = q} {x = saidVal v} (put-one T U i r q (saidVal v) others u) (inr (omega (arith, counted r q v l f)))
 
-  admitted : (r : ℕ) (q : Slot) (v : Val) → r < 16 → pick ≡ Move.Admit (inst r q) (num v) → U i ≡ mark (T i) (inst r q) (3 + num v) → Voted C proposal U H
+  -- an admission: more than 2t did
+  admitted : (r : ℕ) (q : Slot) (v : Val) → r < 16 → pick ≡ Move.Admit (inst r q) (num v) → U i ≡ mark (T i) (inst r q) (admitBit (num v))
+      → Voted C proposal U H
   unfolding Reason
   admitted r q v l e u =
       let f = low-fits r q v (admit-new (T i) (H i) (thresholdsOf w) (inst r q) (num v) e .0) in
       let many = admit-over w (witnesses (T i) (inst r q) (num v)) (admit-enough (T i) (H i) (thresholdsOf w) (inst r q) (num v) e) in
       voted-put z {r = r} {q = q} {x = admits v} (put-one T U i r q (admits v) others u) (omega (arith, counted r q v l f))
 
-  -- a host's AUX of an instance is its first
-  replied : (r : ℕ) (q : Slot) (v : Val) → pick ≡ Move.Aux (inst r q) (num v) → U i ≡ mark (T i) (inst r q) (sentBit AUX (num v)) → Voted C proposal U H
+  -- an AUX: the host has sent none in the instance
+  replied : (r : ℕ) (q : Slot) (v : Val) → pick ≡ Move.Aux (inst r q) (num v) → U i ≡ mark (T i) (inst r q) (sentBit AUX (num v))
+      → Voted C proposal U H
   unfolding Reason marks
   replied r q v e u =
       let (_, _, none, _, _, _) = aux-admitted (T i) (H i) (thresholdsOf w) (inst r q) (num v) e in
@@ -138,6 +98,7 @@ module _ (C : Vote) (proposal : ℕ → Val) (w : World) (same-n : w .n ≡ C .n
   here : inst r₀ q₀ ≡ current (H i)
   here = inst-at (H i .round) (H i .phase) (H i .stage) (ranged .phase-low) (ranged .phase-high) (ranged .stage)
 
+  -- a begin: the host says the value with which it enters
   begins : pick ≡ Move.Begin (inst r₀ q₀) (num (valOf (H i .own))) → H i .standing ≡ 0
       → U i ≡ mark (mark (T i) (inst r₀ q₀) begunBit) (inst r₀ q₀) (sentBit VAL (num (valOf (H i .own)))) → Voted C proposal U H
   unfolding Reason

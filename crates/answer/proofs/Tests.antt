@@ -26,6 +26,6 @@ and-false true = refl
 and-false false = refl
 
 -- what holds of both choices, each where it is taken, holds of the choice
-pub either : {A : Type 0} (P : A → Type 0) (b : Bool) (x y : A) → (b ≡ true → P x) → (b ≡ false → P y) → P (cond b x y)
+pub either {ℓ} : {A : Type 0} (P : A → Type ℓ) (b : Bool) (x y : A) → (b ≡ true → P x) → (b ≡ false → P y) → P (cond b x y)
 either P true x y f g = f refl
 either P false x y f g = g refl

@@ -256,7 +256,7 @@ replaying-after (suc fuel) run table bytes c l =
 -- ---- What stays
 
 -- what every event keeps, the run keeps
-pub along : (P : Run → List ℕ → Type 0)
+pub along {ℓ} : (P : Run → List ℕ → Type ℓ)
     → ((run : Run) (table piece : List ℕ) → P run table → P (runAfter run table piece) (tableAfter run table piece))
     → (run : Run) (table : List ℕ) (ps : List (List ℕ)) → P run table → P (after run table ps .0) (after run table ps .1)
 unfolding after

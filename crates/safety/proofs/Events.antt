@@ -2,8 +2,8 @@
 -- reach. Assumes nothing.
 use Prim.Native.Nat.{ℕ, zero, suc, _-_, _/_, _%_, _^_, _≤_, _<_}
 use mathlib.Core.Path.{_≡_, refl, sym, ap, subst, _∙_}
-use mathlib.Core.Bool.{Bool, true, false, cond, not}
-use mathlib.Core.List.{List, [], _∷_}
+use mathlib.Core.Bool.{Bool, true, false, not}
+use mathlib.Core.List.{List}
 use native.Mathlib.Decide.{ℕ-discrete}
 use native.Mathlib.Omega.{arith}
 use lib.ListN.{length, length-set}
@@ -26,12 +26,14 @@ use Rattle.turn.proofs.Turns.{turn-made}
 use Rattle.delivery.specs.Recording.{frameInstance}
 use Rattle.delivery.proofs.Changes.{word-delivered, delivery-said, asked-sent}
 use Rattle.file.specs.Layouts.{threeAt, eventOf}
+use Rattle.file.specs.declared.Event.{Event}
 use Rattle.table.specs.Table.{partOf, said}
 use Rattle.table.specs.Stepping.{delivers}
 use Rattle.table.proofs.Steps.{step-length, step-others, step-turn, step-delivery, step-valid, quiet-valid, said-asked}
-use Rattle.run.specs.Playing.{hostIn, senderIn, hostAt, happens, recordAfter, full, settled, runAfter, tableAfter, after}
+use Rattle.run.specs.Playing.{hostIn, senderIn, hostAt, happens, recordAfter, settled, runAfter, tableAfter, after}
 use Rattle.run.specs.declared.Run.{Run}
 use Rattle.run.proofs.Happening.{stepOf, refused-leaves, event-step, host-32}
+use Rattle.run.proofs.Runs.{along}
 use Rattle.run.proofs.Sent.{event-others, event-own}
 use Rattle.safety.specs.Demand.{liars, proposal}
 use Rattle.safety.proofs.Votes.{Val, Bit, Vote, Honest}
@@ -54,9 +56,11 @@ bit-val (suc (suc k)) l = absurd (omega arith)
 
 -- the run that a file starts, with a world of the right size and at most t liars
 module _ (first : Run) (sized : Sized (first .world)) (few : liars first ≤ first .world .t) where
+  -- at most t are not honest
   pub few-lying : count (first .world .n) (λ i. not (not (lying (hostAt first i)))) ≤ first .world .t
   few-lying = rw (count-same (first .world .n) (λ i. not (not (lying (hostAt first i)))) (λ i. lying (hostAt first i)) (λ i. twice (lying (hostAt first i)))) few
 
+  -- the vote of its hosts, and their proposals
   abbrev pub vote : Vote
   vote = record {
     n = first .world .n;
@@ -102,10 +106,14 @@ module _ (first : Run) (sized : Sized (first .world)) (few : liars first ≤ fir
   still h me (Move.View view) l = (ne-eqb _ 3 (honest-stays h view (eqb-false (h .standing) 3 l)), coins-stay h view)
 
   module _ (now : Run) (table piece : List ℕ) (x : Fair now table) where
-    -- the event's host
+    -- the event and its host
+    abbrev event : Event
+    event = eventOf (threeAt piece 0)
+
     abbrev i : ℕ
     i = hostIn piece
 
+    -- a refused event leaves all but the counts
     refused-fair : (k : ℕ) → Fair (settled now i (refused k)) table
     refused-fair k = record {
       room = x .room;
@@ -118,7 +126,7 @@ module _ (first : Run) (sized : Sized (first .world)) (few : liars first ≤ fir
     }
 
     module _ (a : Turn) (t : List ℕ) (e : happens now table piece ≡ (accepted a, t)) where
-      -- the run after it, and its record of each host
+      -- the run after an accepted one, the record of each host in it, and the words of each host
       abbrev next : Run
       next = settled now i (accepted a)
 
@@ -132,7 +140,7 @@ module _ (first : Run) (sized : Sized (first .world)) (few : liars first ≤ fir
       own = rw e at (event-own now table piece (rw (x .hosts) (host-32 piece)) e)
 
       others : (j : ℕ) → (j ≡ i → ⊥) → partOf t j ≡ partOf table j
-      others j d = step-others table (hostAt now i) _ (now .world) (eventOf (threeAt piece 0)) j done d
+      others j d = step-others table (hostAt now i) _ (now .world) event j done d
 
       -- what the event's host keeps, and the others, all keep
       all : (P : ℕ → Host → Type 0) → ((j : ℕ) → P j (hostAt now j)) → P i (recordAfter (hostAt now i) a) → (j : ℕ) → P j (hostAt next j)
@@ -142,15 +150,17 @@ module _ (first : Run) (sized : Sized (first .world)) (few : liars first ≤ fir
           go (yes q) = rw (q, own) now-so
           go (no d) = rw (same j d) (before j)
 
+      -- the record is in range
       in-range : (b : Turn) → b ≡ a → Valid (recordAfter (hostAt now i) b)
       in-range idle q = x .ranged i (host-32 piece)
-      in-range (quiet g) q = quiet-valid table (hostAt now i) _ (now .world) (eventOf (threeAt piece 0)) (rw (← q) at done)
-      in-range (broadcast g f) q = step-valid table (hostAt now i) _ (now .world) (eventOf (threeAt piece 0)) (rw (← q) at done)
+      in-range (quiet g) q = quiet-valid table (hostAt now i) _ (now .world) event (rw (← q) at done)
+      in-range (broadcast g f) q = step-valid table (hostAt now i) _ (now .world) event (rw (← q) at done)
 
+      -- what is left to show of an accepted event: the host's honesty, its coins, and the vote
       accepted-fair : lying (recordAfter (hostAt now i) a) ≡ lying (hostAt first i) → recordAfter (hostAt now i) a .coins ≡ hostAt first i .coins
           → Voted vote proposals (partOf t) (hostAt next) → Fair next t
       accepted-fair l c y = record {
-        room = rw (step-length table (hostAt now i) _ (now .world) (eventOf (threeAt piece 0)) done) (x .room);
+        room = rw (step-length table (hostAt now i) _ (now .world) event done) (x .room);
         hosts = length-set (now .hosts) i (recordAfter (hostAt now i) a) ∙ x .hosts;
         world = x .world;
         ranged = all (λ j h. j < 32 → Valid h) (x .ranged) (λ _. in-range a refl);
@@ -166,10 +176,10 @@ module _ (first : Run) (sized : Sized (first .world)) (few : liars first ≤ fir
       same-t = ap (λ (w : World). w .t) (x .world)
 
       -- a turn
-      turn-fair : delivers (eventOf (threeAt piece 0)) ≡ false → Fair next t
+      turn-fair : delivers event ≡ false → Fair next t
       turn-fair d =
           let h = hostAt now i in
-          let taken = step-turn table h _ (now .world) (eventOf (threeAt piece 0)) d done in
+          let taken = step-turn table h _ (now .world) event d done in
           let ((_, (_, (_, (host, (honest, (whole, _)))))), moved) = turn-made (partOf table i) h (now .world) i taken in
           let m : Move = chosen (partOf table i) h (thresholdsOf (now .world)) in
           let answer : a ≡ answered h i m = ap (λ p. p .0) moved in
@@ -180,15 +190,15 @@ module _ (first : Run) (sized : Sized (first .world)) (few : liars first ≤ fir
           (hostAt next) same honest whole (tossed now table x i (host-32 piece)) m refl (ap (λ p. p .1) moved) (own ∙ ap (recordAfter h) answer))
 
       -- a delivery
-      heard-fair : delivers (eventOf (threeAt piece 0)) ≡ true → Fair next t
+      heard-fair : delivers event ≡ true → Fair next t
       heard-fair d =
           let h = hostAt now i in
-          let word = eventOf (threeAt piece 0) .word in
-          let s = hostAt now (senderIn (eventOf (threeAt piece 0))) in
-          let (heard, nothing) = step-delivery table h s (now .world) (eventOf (threeAt piece 0)) d done in
+          let word = event .word in
+          let s = hostAt now (senderIn event) in
+          let (heard, nothing) = step-delivery table h s (now .world) event d done in
           let (f, read, taken) = word-delivered (partOf table i) h (now .world) word (said table s (now .world) word) heard in
           let (says, sound) = read-as word read in
-          let sender : senderIn (eventOf (threeAt piece 0)) ≡ f .sender = sym (ap (λ (f : Frame). f .sender) says) in
+          let sender : senderIn event ≡ f .sender = sym (ap (λ (f : Frame). f .sender) says) in
           let asked = said-asked table s (now .world) word f read (delivery-said (partOf table i) h (now .world) f _ taken) in
           let broadcast-it : vote .honest (f .sender) ≡ true → hasSent (partOf table (f .sender)) (f .kind) (frameInstance f) (f .value) ≡ true =
           λ g. asked-sent (partOf table (f .sender)) s (now .world) f asked (x .lies _ ∙ rw sender (not-true _ g)) in
@@ -212,12 +222,4 @@ module _ (first : Run) (sized : Sized (first .world)) (few : liars first ≤ fir
 
   -- and so does a run
   pub fair-run : (now : Run) (table : List ℕ) (pieces : List (List ℕ)) → Fair now table → Fair (after now table pieces .0) (after now table pieces .1)
-  unfolding after
-  fair-run now table [] x = x
-  fair-run now table (piece ∷ more) x = go (full now) (fair-run _ _ more (fair-event now table piece x))
-    where
-      go : (b : Bool) → Fair (after (runAfter now table piece) (tableAfter now table piece) more .0) (after (runAfter now table piece) (tableAfter now table piece) more .1)
-          → Fair (cond b (now, table) (after (runAfter now table piece) (tableAfter now table piece) more) .0)
-          (cond b (now, table) (after (runAfter now table piece) (tableAfter now table piece) more) .1)
-      go true y = x
-      go false y = y
+  fair-run = along Fair fair-event

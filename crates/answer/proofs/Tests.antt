@@ -12,19 +12,6 @@ pub both : (a b : Bool) → a && b ≡ true → (a ≡ true) × (b ≡ true)
 both true b e = (refl, e)
 both false b e = (e, cc)
 
--- a second part that is known
-pub or-true : (a : Bool) → a || true ≡ true
-or-true true = refl
-or-true false = refl
-
-pub or-false : (a : Bool) → a || false ≡ a
-or-false true = refl
-or-false false = refl
-
-pub and-false : (a : Bool) → a && false ≡ false
-and-false true = refl
-and-false false = refl
-
 -- what holds of both choices, each where it is taken, holds of the choice
 pub either {ℓ} : {A : Type 0} (P : A → Type ℓ) (b : Bool) (x y : A) → (b ≡ true → P x) → (b ≡ false → P y) → P (cond b x y)
 either P true x y f g = f refl

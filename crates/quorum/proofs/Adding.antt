@@ -2,7 +2,7 @@
 -- below n, over any width. Assumes nothing.
 use Prim.Native.Nat.{ℕ, zero, suc, _+_, _*_, _/_, _%_, _^_, _<_, max}
 use mathlib.Core.Path.{_≡_, refl, sym, ap, _∙_}
-use mathlib.Core.Bool.{Bool, true, false, _||_}
+use mathlib.Core.Bool.{Bool, true, false, _||_, or-true, or-false}
 use native.Mathlib.Nat.{zero-div, one-mul, pow-suc}
 use native.Mathlib.Decide.{ℕ-discrete}
 use native.Mathlib.Omega.{arith}
@@ -10,7 +10,6 @@ use lib.Bits.{bitOr, or-step, or-shr}
 use lib.Dec.{lit<, eqb}
 use lib.Pow.{shl-exact}
 use borrow.Author.Tests.{eqb-false}
-use Rattle.answer.proofs.Tests.{or-true, or-false}
 use Rattle.quorum.specs.Count.{count}
 use Rattle.quorum.specs.Sets.{member, size, add, union}
 use Rattle.quorum.proofs.Members.{member-suc, size-counts}

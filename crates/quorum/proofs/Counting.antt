@@ -1,12 +1,11 @@
 -- Counting hosts: what the sizes of two sets tell of their common members, and what one member more adds. Assumes nothing.
 use Prim.Native.Nat.{ℕ, zero, suc, _+_, _≤_, _<_}
 use mathlib.Core.Path.{_≡_, refl, ap₂}
-use mathlib.Core.Bool.{Bool, true, false, not, _&&_}
+use mathlib.Core.Bool.{Bool, true, false, not, _&&_, and-false}
 use native.Mathlib.Decide.{ℕ-discrete, decLt}
 use native.Mathlib.Omega.{arith}
 use borrow.Author.Tests.{eq-eqb, ne-eqb, lt-ltb, le-ltb}
 use lib.Dec.{eqb, ltb}
-use Rattle.answer.proofs.Tests.{and-false}
 use Rattle.quorum.specs.Count.{one, count}
 
 one-and : (a b : Bool) → one a + one b ≤ 1 + one (a && b)

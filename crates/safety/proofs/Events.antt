@@ -2,7 +2,7 @@
 -- reach. Assumes nothing.
 use Prim.Native.Nat.{ℕ, zero, suc, _-_, _/_, _%_, _^_, _≤_, _<_}
 use mathlib.Core.Path.{_≡_, refl, sym, ap, subst, _∙_}
-use mathlib.Core.Bool.{Bool, true, false, not}
+use mathlib.Core.Bool.{Bool, true, false, not, Bool·not-not}
 use mathlib.Core.List.{List}
 use native.Mathlib.Decide.{ℕ-discrete}
 use native.Mathlib.Omega.{arith}
@@ -45,10 +45,6 @@ use Rattle.safety.proofs.Hearing.{read-as, delivery-voted}
 
 -- ---- The vote of a run
 
-twice : (b : Bool) → not (not b) ≡ b
-twice true = refl
-twice false = refl
-
 pub bit-val : (k : ℕ) → k < 2 → Bit (valOf k)
 bit-val zero l = tt
 bit-val (suc zero) l = tt
@@ -58,7 +54,7 @@ bit-val (suc (suc k)) l = absurd (omega arith)
 module _ (first : Run) (sized : Sized (first .world)) (few : liars first ≤ first .world .t) where
   -- at most t are not honest
   pub few-lying : count (first .world .n) (λ i. not (not (lying (hostAt first i)))) ≤ first .world .t
-  few-lying = rw (count-same (first .world .n) (λ i. not (not (lying (hostAt first i)))) (λ i. lying (hostAt first i)) (λ i. twice (lying (hostAt first i)))) few
+  few-lying = rw (count-same (first .world .n) (λ i. not (not (lying (hostAt first i)))) (λ i. lying (hostAt first i)) (λ i. Bool·not-not (lying (hostAt first i)))) few
 
   -- the vote of its hosts, and their proposals
   abbrev pub vote : Vote

@@ -3,11 +3,12 @@
 -- to 3. Assumes nothing.
 use Prim.Native.Nat.{ℕ, zero, suc, _+_, _-_, _≤_, _<_, zero-le}
 use mathlib.Core.Path.{_≡_, refl, sym, _∙_}
-use mathlib.Core.Bool.{Bool, true, false, false≢true}
+use mathlib.Core.Bool.{Bool, true, false}
+use mathlib.Core.Logic.{inl, inr}
 use native.Mathlib.Decide.{decLt}
 use native.Mathlib.Nat.{zero-add}
 use native.Mathlib.Omega.{arith}
-use Rattle.safety.proofs.Votes.{Val, v0, v1, neither, Phase, phase1, phase2, Slot, stage0, stage1, Bit, View, Only, Vote, Honest, History, made, saw, Grows, Made, Equal, Rule, Sound, NotThree, NotTwo, not-both, not-bit}
+use Rattle.safety.proofs.Votes.{Val, v0, v1, neither, Phase, phase1, phase2, Slot, stage0, stage1, Bit, View, Only, Vote, Honest, History, made, saw, Grows, Made, Equal, Rule, Sound, NotThree, NotTwo, not-both, not-bit, alone}
 
 -- ---- The rule
 
@@ -194,28 +195,12 @@ module _ (C : Vote) (D : History) (S : Sound D (In C D)) where
     coin = λ i r W x h f none. go i r W x h f none (W v0) (W v1) (W neither) refl refl refl;
   }
     where
-      off : {A : Type 0} {b : Bool} → b ≡ true → b ≡ false → A
-      off h g = absurd (false≢true (sym g ∙ h))
-
-      only : (W : View) (v x : Val) → W x ≡ true → ((w : Val) → W w ≡ true → w ≡ v) → Only W v
-      only W v x h f = (rw (f x h) at h, f)
-
-      just0 : (W : View) → W v1 ≡ false → W neither ≡ false → (w : Val) → W w ≡ true → w ≡ v0
-      just0 W y z v0 h = refl
-      just0 W y z v1 h = off h y
-      just0 W y z neither h = off h z
-
-      just1 : (W : View) → W v0 ≡ false → W neither ≡ false → (w : Val) → W w ≡ true → w ≡ v1
-      just1 W y z v0 h = off h y
-      just1 W y z v1 h = refl
-      just1 W y z neither h = off h z
-
       go : (i r : ℕ) (W : View) (x : Val) → W x ≡ true → ((w : Val) → W w ≡ true → From w) → ((v : Val) → Bit v → Only W v → ⊥)
           → (a b c : Bool) → W v0 ≡ a → W v1 ≡ b → W neither ≡ c → From (C .coin i r)
       go i r W x h f none a b true e₀ e₁ e₂ = let (m, k) = f neither e₂ in from-both (C .coin i r) m k
       go i r W x h f none true true false e₀ e₁ e₂ = from-both (C .coin i r) (f v0 e₀) (f v1 e₁)
-      go i r W x h f none a false false e₀ e₁ e₂ = absurd (none v0 tt (only W v0 x h (just0 W e₁ e₂)))
-      go i r W x h f none false true false e₀ e₁ e₂ = absurd (none v1 tt (only W v1 x h (just1 W e₀ e₂)))
+      go i r W x h f none a false false e₀ e₁ e₂ = absurd (none v0 tt (alone W v0 x h (inl refl) (inr e₁) (inr e₂)))
+      go i r W x h f none false true false e₀ e₁ e₂ = absurd (none v1 tt (alone W v1 x h (inr e₀) (inl refl) (inr e₂)))
 
   from-first : All C D 0 (stage0 phase1) From
   from-first i w (first h b d) = from-made w b (record { host = i; honest = h; said = d })

@@ -1,7 +1,8 @@
 -- Where a host stands follows from what it has completed: "After the view", held against the rule of the history. Assumes nothing.
 use Prim.Native.Nat.{ℕ, zero, suc, _+_, _-_, _≤_, _<_}
-use mathlib.Core.Path.{_≡_, refl, sym, subst, _∙_}
-use mathlib.Core.Bool.{Bool, true, false, _&&_, false≢true}
+use mathlib.Core.Path.{_≡_, refl, sym, ap, subst, _∙_}
+use mathlib.Core.Bool.{Bool, true, false, _&&_}
+use mathlib.Core.Logic.{inl, inr}
 use native.Mathlib.Decide.{decLt, ℕ-discrete}
 use native.Mathlib.Omega.{arith}
 use Rattle.quorum.specs.Sets.{member}
@@ -10,7 +11,7 @@ use Rattle.host.specs.declared.Host.{Host}
 use Rattle.view.specs.View.{onlyOf, afterView}
 use Rattle.view.proofs.Views.{only-zero, only-one, only-neither, only-low, first-own, phase-follows, single-estimate, coin-estimate}
 use Rattle.view.proofs.Views.{round-follows, round-ends, seen-estimate, decides-only, decision-stays}
-use Rattle.safety.proofs.Votes.{Val, v0, v1, neither, Phase, phase1, phase2, stage0, stage1, Bit, View, Only, Vote, History, saw, Grows, Sound}
+use Rattle.safety.proofs.Votes.{Val, v0, v1, neither, Phase, phase1, phase2, stage0, stage1, Bit, View, Only, Vote, History, saw, Grows, Sound, off, alone}
 use Rattle.safety.proofs.Phases.{In, same, mixed, single, toss, seen, kept, in-mono, Decided, in-bit}
 use Rattle.safety.proofs.Reading.{num, valOf, phaseOf, slotAt}
 
@@ -20,57 +21,29 @@ use Rattle.safety.proofs.Reading.{num, valOf, phaseOf, slotAt}
 abbrev pub viewed : ℕ → View
 viewed view v = member view (num v)
 
-off : {A : Type 0} {b : Bool} → b ≡ true → b ≡ false → A
-off h g = absurd (false≢true (sym g ∙ h))
-
--- 0 alone, 1 alone, neither alone
-only-0 : (W : View) → W v0 ≡ true → W v1 ≡ false → W neither ≡ false → Only W v0
-only-0 W x y z = (x, go)
-  where
-    go : (w : Val) → W w ≡ true → w ≡ v0
-    go v0 h = refl
-    go v1 h = off h y
-    go neither h = off h z
-
-only-1 : (W : View) → W v0 ≡ false → W v1 ≡ true → W neither ≡ false → Only W v1
-only-1 W x y z = (y, go)
-  where
-    go : (w : Val) → W w ≡ true → w ≡ v1
-    go v0 h = off h x
-    go v1 h = refl
-    go neither h = off h z
-
-only-2 : (W : View) → W v0 ≡ false → W v1 ≡ false → (v : Val) → W v ≡ true → Only W neither
-only-2 W x y v0 h = off h x
-only-2 W x y v1 h = off h y
-only-2 W x y neither h = (h, go)
-  where
-    go : (w : Val) → W w ≡ true → w ≡ neither
-    go v0 g = off g x
-    go v1 g = off g y
-    go neither g = refl
-
 -- the one value of a view is what `onlyOf` gives
 lone : (view : ℕ) (v : Val) → Bit v → onlyOf view ≡ num v → Only (viewed view) v
-lone view v0 b e = let (x, y, z) = only-zero view e in only-0 (viewed view) x y z
-lone view v1 b e = let (x, y, z) = only-one view e in only-1 (viewed view) x y z
+lone view v0 b e = let (x, y, z) = only-zero view e in alone (viewed view) v0 v0 x (inl refl) (inr y) (inr z)
+lone view v1 b e = let (x, y, z) = only-one view e in alone (viewed view) v1 v1 y (inr x) (inl refl) (inr z)
 lone view neither b e = absurd b
 
--- where that is neither, the view is not of one value 0 or 1
+-- one of neither 0 nor 1
+void : (view : ℕ) (v : Val) → viewed view v ≡ true → member view 0 ≡ false → member view 1 ≡ false → Only (viewed view) neither
+void view v h x y = alone (viewed view) neither v h (inr x) (inr y) (inl refl)
+
 is-off : (b : Bool) → (b ≡ true → ⊥) → b ≡ false
 is-off true f = absurd (f refl)
 is-off false f = refl
 
-other : (a b : Val) (x y : ℕ) → num a ≡ x → num b ≡ y → (x ≡ y → ⊥) → a ≡ b → ⊥
-other a b x y e f n g = n (sym e ∙ (rw g f))
+apart : {a b : Val} → (num a ≡ num b → ⊥) → a ≡ b → ⊥
+apart n e = n (ap num e)
 
+-- where `onlyOf` gives neither, the view is not of one value 0 or 1
 not-lone : (view : ℕ) → view < 8 → onlyOf view ≡ 2 → (v : Val) → Bit v → Only (viewed view) v → ⊥
 not-lone view l e v0 b (h, f) =
-    only-neither view l e .0 h (is-off _ (λ g. other v1 v0 1 0 refl refl (λ z. omega arith) (f v1 g)))
-    (is-off _ (λ g. other neither v0 2 0 refl refl (λ z. omega arith) (f neither g)))
+    only-neither view l e .0 h (is-off _ (λ g. apart (λ z. omega arith) (f v1 g))) (is-off _ (λ g. apart (λ z. omega arith) (f neither g)))
 not-lone view l e v1 b (h, f) =
-    only-neither view l e .1 (is-off _ (λ g. other v0 v1 0 1 refl refl (λ z. omega arith) (f v0 g))) h
-    (is-off _ (λ g. other neither v1 2 1 refl refl (λ z. omega arith) (f neither g)))
+    only-neither view l e .1 (is-off _ (λ g. apart (λ z. omega arith) (f v0 g))) h (is-off _ (λ g. apart (λ z. omega arith) (f neither g)))
 not-lone view l e neither b o = b
 
 -- ---- With what a host goes on
@@ -89,7 +62,7 @@ module _ (C : Vote) (E : History) (S : Sound E (In C E)) (i r view : ℕ) (small
       both e true true x y = mixed d x y
       both e true false x y = absurd (only-neither view small e .0 x y (no-neither p d))
       both e false true x y = absurd (only-neither view small e .1 x y (no-neither p d))
-      both e false false x y = let (v, h, _) = S .meet d d in off (only-2 (viewed view) x y v h .0) (no-neither p d)
+      both e false false x y = let (v, h, _) = S .meet d d in off (void view v h x y .0) (no-neither p d)
 
       go : (o : ℕ) → onlyOf view ≡ o → o < 3 → In C E i r (stage1 p) (valOf o)
       go zero e l = same d (lone view v0 tt e)
@@ -126,7 +99,7 @@ module _ (C : Vote) (E : History) (S : Sound E (In C E)) (i r view : ℕ) (small
       go : (a b : Bool) → member view 0 ≡ a → member view 1 ≡ b → In C E i (suc r) (stage0 phase1) (valOf new)
       go true b e f = rw (is-0 e) (seen {v = v0} d tt e)
       go false true e f = rw (is-1 f) (seen {v = v1} d tt f)
-      go false false e f = let (v, h, _) = S .meet d d in rw (none e f) (kept d (only-2 (viewed view) e f v h) x)
+      go false false e f = let (v, h, _) = S .meet d d in rw (none e f) (kept d (void view v h e f) x)
 
 -- ---- Where a host stands
 

@@ -1,8 +1,9 @@
 -- The words of the vote, for demand 3: values, instances, views; the hosts; what has happened to them, as facts that only grow. No step of a run
 -- stands here. Assumes nothing.
 use Prim.Native.Nat.{ℕ, _*_, _≤_, _<_}
-use mathlib.Core.Path.{_≡_, subst}
-use mathlib.Core.Bool.{Bool, true, not}
+use mathlib.Core.Path.{_≡_, sym, subst, _∙_}
+use mathlib.Core.Bool.{Bool, true, false, not, false≢true}
+use mathlib.Core.Logic.{_⊎_, ⊎-elim}
 use native.Mathlib.Omega.{arith}
 use Rattle.quorum.specs.Count.{count}
 
@@ -103,3 +104,22 @@ not-both v a b = let z : _≡_ {A = ℕ} 0 1 = cc in omega arith
 
 pub not-bit : (v : Val) → v ≡ neither → Bit v → ⊥
 not-bit v e b = subst Bit e b
+
+-- ---- Views of one value
+
+-- no value is both in a view and not in it
+pub off : {A : Type 0} {b : Bool} → b ≡ true → b ≡ false → A
+off h g = absurd (false≢true (sym g ∙ h))
+
+-- a view that has a value, and none but v, is of v alone
+pub alone : (W : View) (v x : Val) → W x ≡ true → (v0 ≡ v) ⊎ (W v0 ≡ false) → (v1 ≡ v) ⊎ (W v1 ≡ false) → (neither ≡ v) ⊎ (W neither ≡ false)
+    → Only W v
+alone W v x h a b c = (rw (all x h) at h, all)
+  where
+    is : (w : Val) → (w ≡ v) ⊎ (W w ≡ false) → W w ≡ true → w ≡ v
+    is w o g = ⊎-elim (λ e. e) (off g) o
+
+    all : (w : Val) → W w ≡ true → w ≡ v
+    all v0 = is v0 a
+    all v1 = is v1 b
+    all neither = is neither c

@@ -1,7 +1,7 @@
 -- What a turn broadcasts can be packed: every field of the frame is in its range. Assumes nothing.
 use Prim.Native.Nat.{ℕ, _+_, _/_, _%_, _<_}
 use mathlib.Core.Path.{_≡_, refl, ap}
-use mathlib.Core.Bool.{Bool, true, false, _&&_}
+use mathlib.Core.Bool.{Bool, true, false, _&&_, and-false}
 use mathlib.Core.List.{List}
 use native.Mathlib.Decide.{ℕ-discrete}
 use native.Mathlib.Omega.{arith}
@@ -10,7 +10,6 @@ use lib.ListN.{length}
 use borrow.Author.Tests.{le-ltb, leb-false, eqb-true, ne-eqb}
 use Rattle.answer.specs.Answer.{accepted}
 use Rattle.answer.proofs.Guards.{passes}
-use Rattle.answer.proofs.Tests.{and-false}
 use Rattle.frame.specs.Frame.{wordOf, badRound, badValue, unnamed, packGuards, packing}
 use Rattle.frame.specs.declared.Frame.{Frame}
 use Rattle.quorum.specs.World.{thresholdsOf}

@@ -1,12 +1,11 @@
 -- Whose values a view holds: the senders whose recorded AUX value is admitted, and the values of all of them. Assumes nothing.
 use Prim.Native.Nat.{ℕ, zero, suc, _+_, _≤_, _<_}
 use mathlib.Core.Path.{_≡_, refl, sym, _∙_}
-use mathlib.Core.Bool.{Bool, true, false, cond, _&&_, _||_, not, true≢false}
+use mathlib.Core.Bool.{Bool, true, false, cond, _&&_, _||_, not, true≢false, or-true}
 use mathlib.Core.List.{List}
 use native.Mathlib.Omega.{arith}
 use lib.Dec.{ltb, eqb}
 use borrow.Author.Tests.{ltb-true, lt-ltb, eqb-true, eqb-false, not-true}
-use Rattle.answer.proofs.Tests.{or-true}
 use Rattle.quorum.specs.Sets.{member, union}
 use Rattle.quorum.proofs.Adding.{member-union, member-none, some-member}
 use Rattle.host.specs.Words.{values, AUX, senders, admitted}

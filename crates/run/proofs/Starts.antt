@@ -6,8 +6,9 @@ use mathlib.Core.Bool.{Bool, true, false, cond}
 use mathlib.Core.List.{List}
 use native.Mathlib.Nat.{zero-add}
 use native.Mathlib.Omega.{arith}
-use native.Mathlib.Decide.{ℕ-discrete}
-use lib.Dec.{eqb}
+use native.Mathlib.Decide.{ℕ-discrete, decLt}
+use lib.Dec.{eqb, ltb}
+use borrow.Author.Tests.{lt-ltb, le-ltb}
 use lib.ListN.{length, getD, set, length-set, length-replicate, getD-replicate}
 use lib.Seq.{getD-set-same, getD-set-other}
 use Rattle.answer.specs.Answer.{accepted}
@@ -48,33 +49,24 @@ unfolding enrolled
 enrolled-length bytes zero = length-replicate 32 liar
 enrolled-length bytes (suc k) = length-set (enrolled bytes k) k (firstHost (threeAt bytes (recordPlace k))) ∙ enrolled-length bytes k
 
--- what every first record has, each of the 32 has
-enrolled-all : (P : Host → Type 0) → ((number : ℕ) → P (firstHost number)) → (bytes : List ℕ) (k i : ℕ) → i < 32
-    → P (getD (enrolled bytes k) i noHost)
+-- each of the 32 is a first record: among the first k of what its three bytes say, behind them a liar's
+enrolled-at : (bytes : List ℕ) (k i : ℕ) → i < 32
+    → getD (enrolled bytes k) i noHost ≡ firstHost (cond (ltb i k) (threeAt bytes (recordPlace i)) 0)
 unfolding enrolled
-enrolled-all P first bytes zero i l = rw (getD-replicate 32 i liar noHost l) (first 0)
-enrolled-all P first bytes (suc k) i l = go (ℕ-discrete i k) (enrolled-all P first bytes k i l)
+enrolled-at bytes zero i l = rw (le-ltb i 0 (omega arith)) (getD-replicate 32 i liar noHost l)
+enrolled-at bytes (suc k) i l = go (ℕ-discrete i k) (decLt i k) (enrolled-at bytes k i l)
   where
     new : Host
     new = firstHost (threeAt bytes (recordPlace k))
 
-    go : Dec (i ≡ k) → P (getD (enrolled bytes k) i noHost) → P (getD (set (enrolled bytes k) k new) i noHost)
-    go (no d) before = rw (getD-set-other (enrolled bytes k) k i new noHost d) before
-    go (yes q) before = rw (q, getD-set-same (enrolled bytes k) k new noHost (rw (q, ← enrolled-length bytes k) at l)) (first (threeAt bytes (recordPlace k)))
-
--- and each read record stands at its host's place
-enrolled-record : (bytes : List ℕ) (k i : ℕ) → k ≤ 32 → i < k → getD (enrolled bytes k) i noHost ≡ firstHost (threeAt bytes (recordPlace i))
-unfolding enrolled
-enrolled-record bytes zero i m l = absurd (omega arith)
-enrolled-record bytes (suc k) i m l = go (ℕ-discrete i k) (enrolled-record bytes k i (omega arith))
-  where
-    new : Host
-    new = firstHost (threeAt bytes (recordPlace k))
-
-    go : Dec (i ≡ k) → (i < k → getD (enrolled bytes k) i noHost ≡ firstHost (threeAt bytes (recordPlace i)))
-        → getD (set (enrolled bytes k) k new) i noHost ≡ firstHost (threeAt bytes (recordPlace i))
-    go (no d) before = getD-set-other (enrolled bytes k) k i new noHost d ∙ before (omega arith)
-    go (yes q) before = rw q (getD-set-same (enrolled bytes k) k new noHost (rw (enrolled-length bytes k) m))
+    go : Dec (i ≡ k) → Dec (i < k) → getD (enrolled bytes k) i noHost ≡ firstHost (cond (ltb i k) (threeAt bytes (recordPlace i)) 0)
+        → getD (set (enrolled bytes k) k new) i noHost ≡ firstHost (cond (ltb i (suc k)) (threeAt bytes (recordPlace i)) 0)
+    go (yes q) m before =
+        rw (q, lt-ltb k (suc k) (omega arith)) (getD-set-same (enrolled bytes k) k new noHost (rw (q, ← enrolled-length bytes k) at l))
+    go (no d) (yes m) before =
+        rw (getD-set-other (enrolled bytes k) k i new noHost d, lt-ltb i (suc k) (omega arith)) (rw (lt-ltb i k m) at before)
+    go (no d) (no m) before =
+        rw (getD-set-other (enrolled bytes k) k i new noHost d, le-ltb i (suc k) (omega arith)) (rw (le-ltb i k (omega arith)) at before)
 
 module _ (bytes : List ℕ) {run : Run} (started : starting bytes ≡ accepted run) where
   is-first : run ≡ firstRun bytes (worldIn bytes)
@@ -98,11 +90,13 @@ module _ (bytes : List ℕ) {run : Run} (started : starting bytes ≡ accepted r
 
   -- what every first record has, each of them has
   pub started-all : (P : Host → Type 0) → ((number : ℕ) → P (firstHost number)) → (i : ℕ) → i < 32 → P (hostAt run i)
-  started-all P first i l = rw is-first (enrolled-all P first bytes (worldIn bytes .n) i l)
+  started-all P first i l = rw (is-first, enrolled-at bytes (worldIn bytes .n) i l) (first _)
 
   -- that of each host of the world is what its three bytes say
   pub started-record : (i : ℕ) → i < run .world .n → hostAt run i ≡ firstHost (threeAt bytes (recordPlace i))
-  started-record i l = rw is-first (enrolled-record bytes (worldIn bytes .n) i (rw is-first at most-hosts) (rw is-first at l))
+  started-record i l =
+      let low = lt-ltb i (worldIn bytes .n) (rw is-first at l) in
+      rw (is-first, enrolled-at bytes (worldIn bytes .n) i (omega (arith, most-hosts)), low) refl
 
   -- after any number of events each record is in range: no event is refused by 13 for a record
   pub run-valid : (table : List ℕ) (ps : List (List ℕ)) (i : ℕ) → i < 32 → Valid (hostAt (after run table ps .0) i)

@@ -1,6 +1,10 @@
 -- What a test in two parts tells of its parts, and what a choice by a test gives. Assumes nothing.
-use mathlib.Core.Path.{_≡_, refl}
-use mathlib.Core.Bool.{Bool, true, false, cond, _&&_, _||_}
+use mathlib.Core.Path.{_≡_, refl, sym, _∙_}
+use mathlib.Core.Bool.{Bool, true, false, cond, _&&_, _||_, true≢false}
+
+-- no test both holds and does not
+pub clash : {A : Type 0} {b : Bool} → b ≡ true → b ≡ false → A
+clash h g = absurd (true≢false (sym h ∙ g))
 
 -- "or" that does not hold: neither part does
 pub neither : (a b : Bool) → a || b ≡ false → (a ≡ false) × (b ≡ false)

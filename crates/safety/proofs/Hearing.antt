@@ -8,6 +8,7 @@ use native.Mathlib.Omega.{arith}
 use lib.ListN.{getD}
 use Rattle.answer.specs.Answer.{accepted}
 use Rattle.answer.proofs.Guards.{clear}
+use Rattle.answer.proofs.Tests.{clash}
 use Rattle.frame.specs.Frame.{unpackGuards, unpacking, frameOf, badValue}
 use Rattle.frame.specs.declared.Frame.{Frame}
 use Rattle.quorum.specs.Sets.{member}
@@ -101,7 +102,7 @@ module _ (C : Vote) (proposal : ℕ → Val) (w : World) (same-n : w .n ≡ C .n
       go false m =
           let (_, fo, mo) = holds-parts T i r q (aux o (f .sender)) d in
           let none = first-aux (T i) h w f said k m e (num o) (rw here (fits-low r q o fo)) in
-          absurd (false≢true (sym (rw here at none) ∙ mo))
+          clash mo (rw here at none)
 
   heard-aux : f .kind ≡ 1 → Voted C proposal U H
   unfolding Reason marks

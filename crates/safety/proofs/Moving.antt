@@ -1,13 +1,14 @@
 -- A turn of an honest host is a step of the vote: each move has the reason that the vote asks for. Assumes nothing.
 use Prim.Native.Nat.{ℕ, _+_, _-_, _/_, _%_, _≤_, _<_}
 use mathlib.Core.Path.{_≡_, refl, sym, subst, _∙_}
-use mathlib.Core.Bool.{Bool, true, false, cond, _&&_, false≢true}
+use mathlib.Core.Bool.{Bool, true, false, cond, _&&_}
 use mathlib.Core.List.{List}
 use mathlib.Core.Logic.{inl, inr}
 use native.Mathlib.Decide.{ℕ-discrete}
 use native.Mathlib.Omega.{arith}
 use lib.Dec.{eqb}
 use borrow.Author.Tests.{eq-eqb, ne-eqb, eqb-false}
+use Rattle.answer.proofs.Tests.{clash}
 use Rattle.quorum.specs.Count.{count}
 use Rattle.quorum.specs.Sets.{member, size}
 use Rattle.quorum.specs.World.{thresholdsOf}
@@ -85,7 +86,7 @@ module _ (C : Vote) (proposal : ℕ → Val) (w : World) (same-n : w .n ≡ C .n
       voted-put z {r = r} {q = q} {x = saidAux v} (put-one T U i r q (saidAux v) others u)
       (λ o h.
       let (_, f, m) = holds-parts T i r q (saidAux o) h in
-      absurd (false≢true (sym (aux-none (T i) (inst r q) none (num o) (fits-low r q o f)) ∙ m)))
+      clash m (aux-none (T i) (inst r q) none (num o) (fits-low r q o f)))
 
   -- ---- In the current instance
 

@@ -1,13 +1,14 @@
 -- How a run starts: the run that a file starts and a cleared table are those of a vote in which nothing has happened but the proposals. Assumes
 -- nothing.
 use Prim.Native.Nat.{ℕ, _-_, _≤_, _<_}
-use mathlib.Core.Path.{_≡_, refl, sym, _∙_}
-use mathlib.Core.Bool.{Bool, true, false, cond, false≢true}
+use mathlib.Core.Path.{_≡_, refl}
+use mathlib.Core.Bool.{Bool, true, false, cond}
 use mathlib.Core.List.{List}
 use native.Mathlib.Omega.{arith}
 use lib.Dec.{eqb}
 use lib.ListN.{length-replicate}
 use Rattle.answer.specs.Answer.{accepted}
+use Rattle.answer.proofs.Tests.{clash}
 use Rattle.quorum.proofs.Adding.{member-none}
 use Rattle.quorum.proofs.Reached.{Sized, sized}
 use Rattle.host.specs.Record.{Valid}
@@ -41,7 +42,7 @@ none-seen d = let e = given-is d in let z : _≡_ {A = ℕ} 0 1 = cc in omega ar
 nothing : (i r : ℕ) (q : Slot) (x : Item) → holds (partOf cleared) i r q x ≡ true → ⊥
 nothing i r q x h =
     let (_, _, m) = holds-parts (partOf cleared) i r q x h in
-    false≢true (sym (member-none (bit x)) ∙ (rw (cleared-words i _) at m))
+    clash (rw (cleared-words i _) at m) (member-none (bit x))
 
 -- "Each starts at round 1, phase 1, stage 0, undecided", honest or lying
 abbrev Fresh : Host → Type 0

@@ -9,7 +9,7 @@ use native.Mathlib.Omega.{arith}
 use lib.Dec.{ltb}
 use lib.ListN.{getD}
 use borrow.Author.Tests.{lt-ltb, ltb-true}
-use Rattle.answer.proofs.Tests.{both}
+use Rattle.answer.proofs.Tests.{clash, both}
 use Rattle.quorum.specs.Sets.{member}
 use Rattle.host.specs.Words.{instance, values, VAL, AUX, setAt, marksAt, sentBit, admitBit, begunBit}
 use Rattle.safety.proofs.Votes.{Val, v0, v1, neither, Phase, phase1, phase2, Slot, stage0, stage1, History}
@@ -297,6 +297,6 @@ lowest-is p v one h = go (p v0) (p v1) (p neither) refl refl refl
     go false false false e f g = absurd (off v h e f g)
       where
         off : (v : Val) → p v ≡ true → p v0 ≡ false → p v1 ≡ false → p neither ≡ false → ⊥
-        off v0 h e f g = false≢true (sym e ∙ h)
-        off v1 h e f g = false≢true (sym f ∙ h)
-        off neither h e f g = false≢true (sym g ∙ h)
+        off v0 h e f g = clash h e
+        off v1 h e f g = clash h f
+        off neither h e f g = clash h g

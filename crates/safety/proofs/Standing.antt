@@ -1,17 +1,18 @@
 -- Where a host stands follows from what it has completed: "After the view", held against the rule of the history. Assumes nothing.
 use Prim.Native.Nat.{ℕ, zero, suc, _+_, _-_, _≤_, _<_}
 use mathlib.Core.Path.{_≡_, refl, sym, ap, subst, _∙_}
-use mathlib.Core.Bool.{Bool, true, false, _&&_}
+use mathlib.Core.Bool.{Bool, true, false, _&&_, not-eq-not}
 use mathlib.Core.Logic.{inl, inr}
 use native.Mathlib.Decide.{decLt, ℕ-discrete}
 use native.Mathlib.Omega.{arith}
+use Rattle.answer.proofs.Tests.{clash}
 use Rattle.quorum.specs.Sets.{member}
 use Rattle.host.specs.Record.{coin, Valid}
 use Rattle.host.specs.declared.Host.{Host}
 use Rattle.view.specs.View.{onlyOf, afterView}
 use Rattle.view.proofs.Views.{only-zero, only-one, only-neither, only-low, first-own, phase-follows, single-estimate, coin-estimate}
 use Rattle.view.proofs.Views.{round-follows, round-ends, seen-estimate, decides-only, decision-stays}
-use Rattle.safety.proofs.Votes.{Val, v0, v1, neither, Phase, phase1, phase2, stage0, stage1, Bit, View, Only, Vote, History, saw, Grows, Sound, off, alone}
+use Rattle.safety.proofs.Votes.{Val, v0, v1, neither, Phase, phase1, phase2, stage0, stage1, Bit, View, Only, Vote, History, saw, Grows, Sound, alone}
 use Rattle.safety.proofs.Phases.{In, same, mixed, single, toss, seen, kept, in-mono, Decided, in-bit}
 use Rattle.safety.proofs.Reading.{num, valOf, phaseOf, slotAt}
 
@@ -27,13 +28,9 @@ lone view v0 b e = let (x, y, z) = only-zero view e in alone (viewed view) v0 v0
 lone view v1 b e = let (x, y, z) = only-one view e in alone (viewed view) v1 v1 y (inr x) (inl refl) (inr z)
 lone view neither b e = absurd b
 
--- one of neither 0 nor 1
-void : (view : ℕ) (v : Val) → viewed view v ≡ true → member view 0 ≡ false → member view 1 ≡ false → Only (viewed view) neither
-void view v h x y = alone (viewed view) neither v h (inr x) (inr y) (inl refl)
-
-is-off : (b : Bool) → (b ≡ true → ⊥) → b ≡ false
-is-off true f = absurd (f refl)
-is-off false f = refl
+-- a view that has a value, but neither 0 nor 1, is of neither alone
+neither-alone : (view : ℕ) (v : Val) → viewed view v ≡ true → member view 0 ≡ false → member view 1 ≡ false → Only (viewed view) neither
+neither-alone view v h x y = alone (viewed view) neither v h (inr x) (inr y) (inl refl)
 
 apart : {a b : Val} → (num a ≡ num b → ⊥) → a ≡ b → ⊥
 apart n e = n (ap num e)
@@ -41,9 +38,9 @@ apart n e = n (ap num e)
 -- where `onlyOf` gives neither, the view is not of one value 0 or 1
 not-lone : (view : ℕ) → view < 8 → onlyOf view ≡ 2 → (v : Val) → Bit v → Only (viewed view) v → ⊥
 not-lone view l e v0 b (h, f) =
-    only-neither view l e .0 h (is-off _ (λ g. apart (λ z. omega arith) (f v1 g))) (is-off _ (λ g. apart (λ z. omega arith) (f neither g)))
+    only-neither view l e .0 h (not-eq-not .0 (λ g. apart (λ z. omega arith) (f v1 g))) (not-eq-not .0 (λ g. apart (λ z. omega arith) (f neither g)))
 not-lone view l e v1 b (h, f) =
-    only-neither view l e .1 (is-off _ (λ g. apart (λ z. omega arith) (f v0 g))) h (is-off _ (λ g. apart (λ z. omega arith) (f neither g)))
+    only-neither view l e .1 (not-eq-not .0 (λ g. apart (λ z. omega arith) (f v0 g))) h (not-eq-not .0 (λ g. apart (λ z. omega arith) (f neither g)))
 not-lone view l e neither b o = b
 
 -- ---- With what a host goes on
@@ -52,7 +49,7 @@ not-lone view l e neither b o = b
 module _ (C : Vote) (E : History) (S : Sound E (In C E)) (i r view : ℕ) (small : view < 8) where
   -- stage 0 has no neither
   no-neither : (p : Phase) → E i (saw r (stage0 p) (viewed view)) → member view 2 ≡ false
-  no-neither p d = is-off (member view 2) (λ h. in-bit C E S (S .just {v = neither} d h .1))
+  no-neither p d = not-eq-not .0 (λ h. in-bit C E S (S .just {v = neither} d h .1))
 
   -- "Stage 0: one value v gives v as the own value of stage 1; two values give "neither""
   first-in : (p : Phase) → E i (saw r (stage0 p) (viewed view)) → In C E i r (stage1 p) (valOf (onlyOf view))
@@ -62,7 +59,7 @@ module _ (C : Vote) (E : History) (S : Sound E (In C E)) (i r view : ℕ) (small
       both e true true x y = mixed d x y
       both e true false x y = absurd (only-neither view small e .0 x y (no-neither p d))
       both e false true x y = absurd (only-neither view small e .1 x y (no-neither p d))
-      both e false false x y = let (v, h, _) = S .meet d d in off (void view v h x y .0) (no-neither p d)
+      both e false false x y = let (v, h, _) = S .meet d d in clash (neither-alone view v h x y .0) (no-neither p d)
 
       go : (o : ℕ) → onlyOf view ≡ o → o < 3 → In C E i r (stage1 p) (valOf o)
       go zero e l = same d (lone view v0 tt e)
@@ -99,7 +96,7 @@ module _ (C : Vote) (E : History) (S : Sound E (In C E)) (i r view : ℕ) (small
       go : (a b : Bool) → member view 0 ≡ a → member view 1 ≡ b → In C E i (suc r) (stage0 phase1) (valOf new)
       go true b e f = rw (is-0 e) (seen {v = v0} d tt e)
       go false true e f = rw (is-1 f) (seen {v = v1} d tt f)
-      go false false e f = let (v, h, _) = S .meet d d in rw (none e f) (kept d (void view v h e f) x)
+      go false false e f = let (v, h, _) = S .meet d d in rw (none e f) (kept d (neither-alone view v h e f) x)
 
 -- ---- Where a host stands
 

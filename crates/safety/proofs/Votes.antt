@@ -1,10 +1,11 @@
 -- The words of the vote, for demand 3: values, instances, views; the hosts; what has happened to them, as facts that only grow. No step of a run
 -- stands here. Assumes nothing.
 use Prim.Native.Nat.{ℕ, _*_, _≤_, _<_}
-use mathlib.Core.Path.{_≡_, sym, subst, _∙_}
-use mathlib.Core.Bool.{Bool, true, false, not, false≢true}
+use mathlib.Core.Path.{_≡_, subst}
+use mathlib.Core.Bool.{Bool, true, false, not}
 use mathlib.Core.Logic.{_⊎_, ⊎-elim}
 use native.Mathlib.Omega.{arith}
+use Rattle.answer.proofs.Tests.{clash}
 use Rattle.quorum.specs.Count.{count}
 
 -- ---- Values, instances, views
@@ -107,17 +108,13 @@ not-bit v e b = subst Bit e b
 
 -- ---- Views of one value
 
--- no value is both in a view and not in it
-pub off : {A : Type 0} {b : Bool} → b ≡ true → b ≡ false → A
-off h g = absurd (false≢true (sym g ∙ h))
-
 -- a view that has a value, and none but v, is of v alone
 pub alone : (W : View) (v x : Val) → W x ≡ true → (v0 ≡ v) ⊎ (W v0 ≡ false) → (v1 ≡ v) ⊎ (W v1 ≡ false) → (neither ≡ v) ⊎ (W neither ≡ false)
     → Only W v
 alone W v x h a b c = (rw (all x h) at h, all)
   where
     is : (w : Val) → (w ≡ v) ⊎ (W w ≡ false) → W w ≡ true → w ≡ v
-    is w o g = ⊎-elim (λ e. e) (off g) o
+    is w o g = ⊎-elim (λ e. e) (clash g) o
 
     all : (w : Val) → W w ≡ true → w ≡ v
     all v0 = is v0 a

@@ -1,11 +1,12 @@
 -- Whose values a view holds: the senders whose recorded AUX value is admitted, and the values of all of them. Assumes nothing.
 use Prim.Native.Nat.{ℕ, zero, suc, _+_, _≤_, _<_}
 use mathlib.Core.Path.{_≡_, refl, sym, _∙_}
-use mathlib.Core.Bool.{Bool, true, false, cond, _&&_, _||_, not, true≢false, or-true}
+use mathlib.Core.Bool.{Bool, true, false, cond, _&&_, _||_, not, or-true}
 use mathlib.Core.List.{List}
 use native.Mathlib.Omega.{arith}
 use lib.Dec.{ltb, eqb}
 use borrow.Author.Tests.{ltb-true, lt-ltb, eqb-true, eqb-false, not-true}
+use Rattle.answer.proofs.Tests.{clash}
 use Rattle.quorum.specs.Sets.{member, union}
 use Rattle.quorum.proofs.Adding.{member-union, member-none, some-member}
 use Rattle.host.specs.Words.{values, AUX, senders, admitted}
@@ -15,8 +16,8 @@ use Rattle.turn.specs.Moves.{heard, viewers, viewOf}
 
 heard-go : (a b : Bool) (set j : ℕ) → member (cond (a && b) set 0) j ≡ true → (a ≡ true) × (b ≡ true) × (member set j ≡ true)
 heard-go true true set j e = (refl, refl, e)
-heard-go true false set j e = absurd (true≢false (sym e ∙ member-none j))
-heard-go false b set j e = absurd (true≢false (sym e ∙ member-none j))
+heard-go true false set j e = clash e (member-none j)
+heard-go false b set j e = clash e (member-none j)
 
 -- who is heard with a value: the value is admitted, and its recorded AUX is of this value
 pub heard-means : (words : List ℕ) (i v j : ℕ) → member (heard words i v) j ≡ true
@@ -101,7 +102,7 @@ view-values words i v l e =
     some-member (heard words i v) (eqb-false _ _ (not-true (eqb (heard words i v) 0) (sym (view-bit (heard words i) v l) ∙ e)))
 
 someone : (set j : ℕ) (b : Bool) → eqb set 0 ≡ b → member set j ≡ true → not b ≡ true
-someone set j true e m = absurd (true≢false (sym m ∙ rw (eqb-true set 0 e) (member-none j)))
+someone set j true e m = clash m (rw (eqb-true set 0 e) (member-none j))
 someone set j false e m = refl
 
 -- a value heard of anyone is in the view

@@ -8,6 +8,11 @@ pub data Answer (A : Type 0) : Type 0 where
   refused : ℕ → Answer A
   accepted : A → Answer A
 
+-- the number of a refusal, 0 where there is none
+abbrev pub numberOf : {A : Type 0} → Answer A → ℕ
+numberOf (refused k) = k
+numberOf (accepted a) = 0
+
 -- a refusal number, and the condition under which it is given
 infix 20 _when_
 pub data Guard : Type 0 where
@@ -32,3 +37,8 @@ beside (accepted a) after = accepted (a, after)
 abbrev pub lent : {A M : Type 0} → M → Answer (A × M) → Answer A × M
 lent before (refused k) = (refused k, before)
 lent before (accepted (a, after)) = (accepted a, after)
+
+-- the same where a first part of a call has its own answer: past it, the call answers and leaves what stands behind it
+abbrev pub goingOn : {A M : Type 0} → M → Answer Unit → Answer A × M → Answer A × M
+goingOn before (refused k) r = (refused k, before)
+goingOn before (accepted u) r = r

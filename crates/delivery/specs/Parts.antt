@@ -1,5 +1,5 @@
 -- What private functions answer, for every case, and what they ask: these definitions serve the crate, and no promise of a call names them.
-use Prim.Native.Nat.{ℕ, _≤_, _<_}
+use Prim.Native.Nat.{_≤_, _<_}
 use Rattle.answer.specs.Answer.{Answer, refused, accepted}
 use Rattle.frame.specs.declared.Frame.{Frame}
 use Rattle.delivery.specs.declared.gates.Gate.{Gate}
@@ -7,11 +7,6 @@ use Rattle.delivery.specs.declared.gates.Gate.{Gate}
 abbrev pub gateSays : Gate → Answer Unit
 gateSays Gate.Open = accepted tt
 gateSays (Gate.Refused k) = refused k
-
--- the number of a refusal, 0 where there is none
-abbrev pub numberOf : {A : Type 0} → Answer A → ℕ
-numberOf (accepted a) = 0
-numberOf (refused k) = k
 
 -- every field of a frame in its range
 pub record Told (f : Frame) : Type 0 where

@@ -9,6 +9,7 @@ ghost use Rattle.frame.specs.Layout.{Fit};
 
 // What a frame says. Kind: 0 VAL, 1 AUX. Round 1 to 16, phase 1 or 2, stage 0 or 1. Value: 0, 1, or
 // 2 for "neither". A struct of these may hold any numbers: `pack` refuses what a frame can't say.
+#[repr(C)]
 pub struct Frame {
     pub kind: u8,
     pub round: u8,

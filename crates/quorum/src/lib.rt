@@ -6,6 +6,7 @@ ghost use Rattle.quorum.specs.Sets.{Has};
 ghost use Rattle.quorum.specs.World.{Makes, Checks, badHosts, badLiars, thresholdsOf};
 
 // n hosts, numbered from 0, of which up to t may lie. It goes by value to every call that asks for it.
+#[repr(C)]
 pub struct World {
     pub n: u32,
     pub t: u32,

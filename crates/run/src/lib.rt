@@ -14,6 +14,7 @@ use quorum::World;
 
 // A run: the records of 32 hosts, those from n on being liars', its world, how many events it has
 // taken and how many of these were refused.
+#[repr(C)]
 pub struct Run {
     pub hosts: [Host; 32],
     pub world: World,

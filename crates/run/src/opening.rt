@@ -1,11 +1,10 @@
 // Reading the host records behind an accepted header.
 ghost use Prim.Native.Nat.{_≤_};
 ghost use mathlib.Core.Path.{_≡_};
-ghost use Rattle.answer.specs.Answer.{Answer, refused, accepted, past};
+ghost use Rattle.answer.specs.Answer.{Answer, refused, accepted, numberOf, past};
 ghost use Rattle.quorum.specs.declared.World.{World as Declared·World};
 ghost use Rattle.file.specs.Reading.{headerSays, recordSays};
 ghost use Rattle.run.specs.Starting.{liar, firstRun, recordsGuards, blank, besideIt};
-ghost use Rattle.delivery.specs.Parts.{numberOf};
 ghost use Rattle.run.specs.declared.Run.{Run as Declared·Run};
 use crate::Run;
 use crate::Started;

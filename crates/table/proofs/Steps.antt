@@ -8,7 +8,7 @@ use native.Mathlib.Decide.{decLt}
 use native.Mathlib.Omega.{arith}
 use lib.ListN.{length, take, drop, length-append, length-take, length-drop, take-append-drop}
 use lib.Seq.{drop-drop, take-at, drop-at, take-append-le, drop-append-le, drop-append-add}
-use Rattle.answer.specs.Answer.{Answer, refused, accepted}
+use Rattle.answer.specs.Answer.{Answer, refused, accepted, goingOn}
 use Rattle.answer.proofs.Guards.{not-both}
 use Rattle.frame.specs.Frame.{unpacking}
 use Rattle.frame.specs.declared.Frame.{Frame}
@@ -22,7 +22,7 @@ use Rattle.turn.specs.Turning.{turning}
 use Rattle.turn.proofs.Turns.{turn-refused, turn-marks, turn-sent, quiet-sent, turn-valid, idle-frame}
 use Rattle.file.specs.declared.Event.{Event}
 use Rattle.table.specs.Table.{partOf, withPart, onPart, agreed, said, passed, passedOn, deliveringAt, turningAt}
-use Rattle.table.specs.Stepping.{delivers, readying, acting, goingOn, stepping}
+use Rattle.table.specs.Stepping.{delivers, readying, acting, stepping}
 use Rattle.table.proofs.Passing.{step-in}
 
 -- ---- Parts

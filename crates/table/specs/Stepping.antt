@@ -6,7 +6,7 @@ use mathlib.Core.Bool.{Bool, cond, _&&_, _||_}
 use mathlib.Core.List.{List, _∷_, _++_}
 use lib.Dec.{ltb, eqb}
 use lib.ListN.{length}
-use Rattle.answer.specs.Answer.{Answer, refused, accepted, Guard, _when_, guarded}
+use Rattle.answer.specs.Answer.{Answer, Guard, _when_, guarded, goingOn}
 use Rattle.quorum.specs.World.{worldGuards}
 use Rattle.quorum.specs.declared.World.{World}
 use Rattle.host.specs.Record.{badHost}
@@ -33,11 +33,6 @@ readying words h sender w e = guarded (stepGuards words h sender w e) tt
 -- what is left to the host: 6 and what follows
 abbrev pub acting : List ℕ → Host → Host → World → Event → Answer Turn × List ℕ
 acting table h sender w e = cond (delivers e) (deliveringAt table h sender w e) (turningAt table h w e)
-
--- what was refused changes nothing
-abbrev pub goingOn : {A : Type 0} → List ℕ → Answer Unit → Answer A × List ℕ → Answer A × List ℕ
-goingOn table (refused k) r = (refused k, table)
-goingOn table (accepted u) r = r
 
 unfoldable pub stepping : List ℕ → Host → Host → World → Event → Answer Turn × List ℕ
 stepping table h sender w e = goingOn table (readying (length table) h sender w e) (acting table h sender w e)

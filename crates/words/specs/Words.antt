@@ -2,16 +2,11 @@
 use Prim.Native.Nat.{ℕ}
 use mathlib.Core.Bool.{Bool}
 use lib.Dec.{eqb}
-use Rattle.answer.specs.Answer.{Answer, refused, accepted}
+use Rattle.answer.specs.Answer.{numberOf}
 use Rattle.frame.specs.Frame.{unpacking}
-use Rattle.frame.specs.declared.Frame.{Frame}
 use Rattle.quorum.specs.Count.{count}
 
 -- a refusal by its number, an accepted word by 0: that it packs to itself again is a law of the codec
-abbrev pub numberOf : Answer Frame → ℕ
-numberOf (refused k) = k
-numberOf (accepted f) = 0
-
 abbrev pub answeredBy : ℕ → ℕ → Bool
 answeredBy number word = eqb (numberOf (unpacking word)) number
 

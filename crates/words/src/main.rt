@@ -1,8 +1,9 @@
 // Unpacks each of the 65,536 words, packs each accepted one again, and prints how many were
 // answered how.
 ghost use mathlib.Core.Path.{_≡_};
+ghost use Rattle.answer.specs.Answer.{numberOf};
 ghost use Rattle.frame.specs.Frame.{unpacking};
-ghost use Rattle.words.specs.Words.{numberOf, tally};
+ghost use Rattle.words.specs.Words.{tally};
 use frame::Packed;
 use frame::Unpacked;
 use libc::STDOUT_FILENO;

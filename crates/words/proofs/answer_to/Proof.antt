@@ -3,8 +3,8 @@ use Prim.Native.Nat.{ℕ}
 use mathlib.Core.Path.{_≡_, ap}
 use native.Mathlib.Omega.{arith}
 use borrow.Author.Needs.{needs}
+use Rattle.answer.specs.Answer.{numberOf}
 use Rattle.frame.proofs.RoundTrip.{packs-back}
-use Rattle.words.specs.Words.{numberOf}
 use Rattle.words.proofs.answer_to.Statement.{statement}
 use Rattle.words.proofs.answer_to.Tie as tie
 

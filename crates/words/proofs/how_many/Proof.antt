@@ -6,10 +6,11 @@ use native.Mathlib.Numerals.{add-one}
 use native.Mathlib.Omega.{arith}
 use borrow.Author.Needs.{needs}
 use borrow.Author.Tests.{eq-eqb, ne-eqb}
+use Rattle.answer.specs.Answer.{numberOf}
 use Rattle.frame.specs.Frame.{unpacking}
 use Rattle.quorum.specs.Count.{count}
 use Rattle.quorum.proofs.Counting.{count-not, count-last}
-use Rattle.words.specs.Words.{numberOf, answeredBy, tally}
+use Rattle.words.specs.Words.{answeredBy, tally}
 use Rattle.words.proofs.how_many.Statement.{statement}
 use Rattle.words.proofs.how_many.Tie as tie
 

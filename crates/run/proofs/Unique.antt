@@ -2,15 +2,17 @@
 use Prim.Native.Nat.{ℕ}
 use mathlib.Core.Path.{_≡_, refl, sym, ap, ap₂, _∙_}
 use mathlib.Core.List.{List}
+use denote.Ref.{now}
 use Rattle.answer.specs.Answer.{Answer, refused, accepted}
 use Rattle.answer.proofs.Once.{once-lent}
 use Rattle.file.specs.declared.Header.{Header}
 use Rattle.file.proofs.Unique.{one-header}
 use Rattle.run.specs.Starting.{starting, besideIt}
 use Rattle.run.specs.Playing.{Ending, ended, stopped}
-use Rattle.run.specs.Calls.{playing, stopSays, Starts, Rests, Plays}
+use Rattle.run.specs.Calls.{playing, stopSays, Starts, Rests, Opens, Plays}
 use Rattle.run.specs.declared.Run.{Run}
 use Rattle.run.specs.declared.Started.{Started}
+use Rattle.run.specs.declared.Opened.{Opened}
 use Rattle.run.specs.declared.Stop.{Stop}
 use Rattle.run.specs.declared.Played.{Played}
 
@@ -21,6 +23,10 @@ starts-once bytes a b p q =
 
 pub rests-once : (bytes a b : List ℕ) → Rests bytes a → Rests bytes b → a ≡ b
 rests-once bytes a b p q = p ∙ sym q
+
+-- of the part it is said what it holds, as of `rest`: a content, not a place in memory
+pub opens-once : (bytes : List ℕ) (a b : Opened) → Opens bytes a → Opens bytes b → (a .answer ≡ b .answer) × (now (a .rest) ≡ now (b .rest))
+opens-once bytes a b = one-header _ (a .answer) (b .answer) (now (a .rest)) (now (b .rest))
 
 stop-of : Answer Ending → Stop
 stop-of (accepted ended) = Stop.End

@@ -4,6 +4,7 @@ use mathlib.Core.Path.{_≡_}
 use mathlib.Core.List.{List, _∷_}
 use lib.Dec.{ltb}
 use lib.ListN.{length}
+use denote.Ref.{now}
 use Rattle.answer.specs.Answer.{Answer, refused, accepted, Guard, _when_, guarded, lent}
 use Rattle.quorum.specs.World.{worldGuards}
 use Rattle.quorum.specs.declared.World.{World}
@@ -12,6 +13,7 @@ use Rattle.run.specs.Starting.{starting, besideIt, restBy}
 use Rattle.run.specs.Playing.{pieces, Ending, ended, stopped, Course, course}
 use Rattle.run.specs.declared.Run.{Run}
 use Rattle.run.specs.declared.Started.{Started}
+use Rattle.run.specs.declared.Opened.{Opened}
 use Rattle.run.specs.declared.Stop.{Stop}
 use Rattle.run.specs.declared.Played.{Played}
 
@@ -43,6 +45,11 @@ Starts bytes started = _≡_ {A = Answer World × Run} (headerSays (started .ans
 -- the promise of `rest`
 abbrev pub Rests : List ℕ → List ℕ → Type 0
 Rests bytes part = part ≡ restBy bytes (starting bytes)
+
+-- the promise of `open`: the answer of `start`, with the part that `rest` hands back beside it
+abbrev pub Opens : List ℕ → Opened → Type 0
+Opens bytes opened =
+    _≡_ {A = Answer World × List ℕ} (headerSays (opened .answer), now (opened .rest)) (besideIt (starting bytes) .0, restBy bytes (starting bytes))
 
 -- the promise of `play`
 abbrev pub Plays : Run → List ℕ → List ℕ → Played → List ℕ → Type 0

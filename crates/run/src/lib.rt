@@ -6,7 +6,10 @@
 mod events;
 mod opening;
 
-ghost use Rattle.run.specs.Calls.{Starts, Rests, Plays};
+ghost use mathlib.Core.Path.{_≡_};
+ghost use Rattle.file.specs.Reading.{headerSays};
+ghost use Rattle.run.specs.Starting.{starting, besideIt};
+ghost use Rattle.run.specs.Calls.{Starts, Rests, Opens, Plays};
 use file::Header;
 use host::Host;
 use quorum::Checked;
@@ -26,6 +29,13 @@ pub struct Run {
 pub struct Started {
     pub answer: Header,
     pub run: Run,
+}
+
+// The world of a run file or its refusal, and the part beside it: the caller's own bytes from the
+// first event on, none where it is refused.
+pub struct Opened<'a> {
+    pub answer: Header,
+    pub rest: &'a [u8],
 }
 
 // Why a call stopped playing: nothing is left, an event was refused by this number, or the call was.
@@ -53,12 +63,19 @@ pub fn start(bytes: &[u8]) -> Started
     }
 }
 
+// What `start` answers, without the run beside it.
+fn answer_to(bytes: &[u8]) -> Header
+    ensures { λ r. ⌜ headerSays r ≡ besideIt (starting (now (bytes .entry))) .0 ⌝ }
+{
+    let started = start(bytes);
+    started.answer
+}
+
 // The caller's own bytes from the first event on; none where `start` refuses them.
 pub fn rest(bytes: &[u8]) -> &[u8]
     ensures { λ r. ⌜ Rests (now (bytes .entry)) (now r) ⌝ }
 {
-    let started = start(bytes);
-    let answer = started.answer;
+    let answer = answer_to(bytes);
     match answer {
         Header::Refused(_) => &bytes[..0],
         Header::World(world) => {
@@ -68,6 +85,17 @@ pub fn rest(bytes: &[u8]) -> &[u8]
             }
             &bytes[..0]
         }
+    }
+}
+
+// The header and record check in one call: what `start` answers, and beside it what `rest` hands back.
+// A function that has an `Opened` is proved by hand; the two calls serve one that is not to be.
+pub fn open<'a>(bytes: &'a [u8]) -> Opened<'a>
+    ensures { λ r. ⌜ Opens (now (bytes .entry)) r ⌝ }
+{
+    Opened {
+        answer: answer_to(bytes),
+        rest: rest(bytes),
     }
 }
 

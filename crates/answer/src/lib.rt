@@ -1,1 +1,2 @@
 // What every call answers: definitions and laws alone, in specs/ and proofs/.
+#![tactic(auto)]

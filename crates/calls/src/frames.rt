@@ -5,14 +5,14 @@ ghost use Rattle.std.specs.Prelude.{◌≡◌};
 use frame::{Frame, Packed, Unpacked};
 
 #[repr(C)]
-#[derive(Drop)]
+#[derive(Clone, Copy, Drop)]
 pub struct FrameAnswer {
     pub refused: u8,
     pub frame: Frame,
 }
 
 #[repr(C)]
-#[derive(Drop)]
+#[derive(Clone, Copy, Drop)]
 pub struct WordAnswer {
     pub refused: u8,
     pub word: u16,

@@ -12,7 +12,7 @@ use quorum::World;
 use turn::Turned;
 
 #[repr(C)]
-#[derive(Drop)]
+#[derive(Clone, Copy, Drop)]
 pub struct SaidAnswer {
     pub refused: u8,
     pub said: bool,
@@ -21,7 +21,7 @@ pub struct SaidAnswer {
 // `moved` is 0 for an idle turn, 1 for a move that broadcasts nothing and 2 for one that broadcasts
 // `frame`. `host` is the record after the turn.
 #[repr(C)]
-#[derive(Drop)]
+#[derive(Clone, Copy, Drop)]
 pub struct TurnAnswer {
     pub refused: u8,
     pub moved: u8,

@@ -10,7 +10,7 @@ use report::Line;
 
 // The length of the line.
 #[repr(C)]
-#[derive(Drop)]
+#[derive(Clone, Copy, Drop)]
 pub struct LineAnswer {
     pub refused: u8,
     pub length: usize,

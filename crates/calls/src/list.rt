@@ -16,7 +16,7 @@ use turn::Turned;
 
 // What a step answered, without the record, which stands in the list. Unknown is for a number that
 // no step answers.
-#[derive(Drop)]
+#[derive(Clone, Copy, Drop)]
 pub enum Stepped {
     Idle,
     Quiet,
@@ -26,7 +26,7 @@ pub enum Stepped {
 }
 
 // What an event makes of its host's record, and the answer's number.
-#[derive(Drop)]
+#[derive(Clone, Copy, Drop)]
 pub struct Done {
     pub host: Host,
     pub code: u32,

@@ -7,7 +7,7 @@ use run::{Run, Stop};
 
 // `first` is where the first event stands in the bytes.
 #[repr(C)]
-#[derive(Drop)]
+#[derive(Clone, Copy, Drop)]
 pub struct StartAnswer {
     pub refused: u8,
     pub run: Run,
@@ -17,7 +17,7 @@ pub struct StartAnswer {
 // `event` is the number by which the last event that was taken was refused, 0 where nothing is left
 // to play. `refused` is of the call itself.
 #[repr(C)]
-#[derive(Drop)]
+#[derive(Clone, Copy, Drop)]
 pub struct PlayAnswer {
     pub refused: u8,
     pub event: u8,

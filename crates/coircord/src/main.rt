@@ -2,6 +2,8 @@
 //
 // What is read and written here is decided by the libraries: `run` plays, `report` makes the lines.
 // No more of a file is held than a buffer of whole events, which is refilled.
+#![tactic(auto)]
+
 mod lines;
 
 ghost use Rattle.std.specs.Prelude.{◌≤◌};
@@ -23,7 +25,7 @@ const MOST: u32 = 4294967295;
 const BUFFERS: u32 = 5570645;
 
 // A run so far, and how many bytes wait in the output buffer.
-#[derive(Drop)]
+#[derive(Clone, Copy, Drop)]
 struct Course {
     run: Run,
     waiting: usize,

@@ -11,13 +11,14 @@ use frame::{Frame, Sound, Unpacked};
 use host::Host;
 use quorum::{Checked, World};
 
-#[derive(Drop)]
+#[derive(Clone, Copy, Drop)]
 pub enum Gate {
     Open,
     Refused(u8),
 }
 
 // Whether a host with so many words can be delivered to: refusals 13, 2, 3, 6.
+#[tactic(auto, unfolding(host::specs::Calls::readying))]
 pub(crate) fn receiver(words: usize, host: Host, world: World) -> Gate
     ensures { gate_says result ≡ guarded (receiver_guards words host world) tt }
 {
@@ -32,6 +33,7 @@ pub(crate) fn receiver(words: usize, host: Host, world: World) -> Gate
 }
 
 // Whether a frame can be said, and by a host of this world: refusals 8, 9, 5.
+#[tactic(auto, unfolding(frame::specs::Frame::judging))]
 pub(crate) fn sender(world: World, frame: Frame) -> Gate
     ensures { gate_says result ≡ guarded (sender_guards world frame) tt }
 {

@@ -3,6 +3,8 @@
 //
 // Each call takes every value of its parameters' types and answers document 01's refusal where it
 // has one. A refused call changes no word.
+#![tactic(auto)]
+
 mod gates;
 mod recording;
 
@@ -15,13 +17,13 @@ use frame::{Frame, Unpacked};
 use host::Host;
 use quorum::{Checked, World};
 
-#[derive(Drop)]
+#[derive(Clone, Copy, Drop)]
 pub enum Delivered {
     Accepted,
     Refused(u8),
 }
 
-#[derive(Drop)]
+#[derive(Clone, Copy, Drop)]
 pub enum Said {
     Known(bool),
     Refused(u8),
@@ -64,6 +66,7 @@ fn conclude(recorded: Recorded) -> Delivered
 }
 
 // The same for a packed frame, with 7 before 8: one that can't be read goes no further.
+#[tactic(auto, unfolding(crate::specs::Delivery::delivering_word))]
 pub fn deliver_word(sets: &mut [u32], host: Host, world: World, word: u16, said: bool) -> Delivered
     ensures { DeliversWord sets.old host world word said result sets.new }
 {
@@ -81,6 +84,7 @@ pub fn deliver_word(sets: &mut [u32], host: Host, world: World, word: u16, said:
 
 // Whether a frame may come from a host with this record and these words: from a liar every frame,
 // from others what they have broadcast. Refusals 13, 2, 3, 8, 9, 5.
+#[tactic(auto, unfolding(host::specs::Calls::readying))]
 pub fn may_send(sets: &[u32], host: Host, world: World, frame: Frame) -> Said
     ensures { Asks sets.now host world frame result }
 {

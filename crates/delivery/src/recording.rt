@@ -9,7 +9,7 @@ use host::{Host, Place};
 
 // A frame was not yet recorded, was recorded before, or another AUX of its sender, of this value,
 // is held.
-#[derive(Drop)]
+#[derive(Clone, Copy, Drop)]
 pub enum Recorded {
     New,
     Repeat,
@@ -17,6 +17,7 @@ pub enum Recorded {
 }
 
 // The value of the AUX of a sender that an instance holds, the lowest if it holds several.
+#[tactic(auto, unfolding(host::specs::Words::senders, crate::specs::Recording::held_aux))]
 fn held_aux(sets: &[u32], inst: usize, sender: usize) -> Place
     requires { (inst < 64) × (448 ≤ length sets.now) }
     ensures { result ≡ held_aux sets.now inst sender }
@@ -43,6 +44,7 @@ fn held_from(sets: &[u32], frame: Frame, inst: usize) -> Place
 }
 
 // Records a frame.
+#[tactic(auto, unfolding(crate::specs::Recording::recording, host::specs::Words::senders, host::specs::Words::put))]
 pub(crate) fn record(sets: &mut [u32], frame: Frame) -> Recorded
     requires { Told frame × (448 ≤ length sets.old) }
     ensures { ◌≡◌ {A = Recorded × List ℕ} (result, sets.new) (recording sets.old frame) }
@@ -62,6 +64,7 @@ pub(crate) fn record(sets: &mut [u32], frame: Frame) -> Recorded
 }
 
 // Whether a host with these words and this record may have sent a frame.
+#[tactic(auto, unfolding(crate::specs::Recording::may_send, host::specs::Words::marks))]
 pub(crate) fn may_come(sets: &[u32], host: Host, frame: Frame) -> bool
     requires { Told frame × (448 ≤ length sets.now) }
     ensures { result ≡ may_send sets.now host frame }

@@ -22,6 +22,7 @@ pub(crate) fn three(high: u8, middle: u8, low: u8) -> u32
 }
 
 // The world that a header's sixteen bits say, whatever they hold.
+#[tactic(auto, unfolding(crate::specs::Layouts::header_world))]
 pub(crate) fn world_of(word: u32) -> World
     ensures { result ≡ header_world word }
 {

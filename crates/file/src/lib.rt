@@ -2,6 +2,8 @@
 //
 // Each call takes every value of its parameters' types and answers document 01's refusal where it
 // has one. Nothing is copied out of the bytes but numbers.
+#![tactic(auto)]
+
 mod bits;
 
 ghost use Rattle.std.specs.Prelude.{◌-◌, ◌≡◌, length};
@@ -11,13 +13,13 @@ use frame::Sound;
 use host::Host;
 use quorum::{Checked, World};
 
-#[derive(Drop)]
+#[derive(Clone, Copy, Drop)]
 pub enum Header {
     World(World),
     Refused(u8),
 }
 
-#[derive(Drop)]
+#[derive(Clone, Copy, Drop)]
 pub enum Record {
     Host(Host),
     Refused(u8),
@@ -25,7 +27,7 @@ pub enum Record {
 
 // An event's fields: kind 0 deliver, 2 turn; the receiver, or the host whose turn it is; a packed
 // frame, or 0 for a turn. Any numbers may stand here: `check` says what is no event.
-#[derive(Drop)]
+#[derive(Clone, Copy, Drop)]
 pub struct Event {
     pub kind: u8,
     pub spare: u8,
@@ -34,7 +36,7 @@ pub struct Event {
 }
 
 // What stands at a place of the bytes: an event, a piece of one, or nothing.
-#[derive(Drop)]
+#[derive(Clone, Copy, Drop)]
 pub enum Seen {
     Event(Event),
     Refused(u8),
@@ -42,6 +44,7 @@ pub enum Seen {
 }
 
 // The world of the header: refusals 1, 2, 3, 4.
+#[tactic(auto, unfolding(crate::specs::Reading::heading))]
 pub fn header_of(bytes: &[u8]) -> Header
     ensures { Heads bytes.now result }
 {
@@ -62,6 +65,7 @@ pub fn header_of(bytes: &[u8]) -> Header
 }
 
 // The host record at a place, as it starts: refusals 1, 4.
+#[tactic(auto, unfolding(crate::specs::Reading::enrolling))]
 pub fn record_at(bytes: &[u8], at: usize) -> Record
     ensures { Enrols bytes.now at result }
 {
@@ -78,6 +82,7 @@ pub fn record_at(bytes: &[u8], at: usize) -> Record
 }
 
 // The event at a place: refusal 1 where the bytes end within it.
+#[tactic(auto, unfolding(crate::specs::Reading::event_at, crate::specs::Reading::event_in))]
 pub fn event_at(bytes: &[u8], at: usize) -> Seen
     ensures { Shows bytes.now at result }
 {
@@ -93,6 +98,7 @@ pub fn event_at(bytes: &[u8], at: usize) -> Seen
 }
 
 // Whether an event is one of this world: refusals 4, 5.
+#[tactic(auto, unfolding(crate::specs::Reading::allowing))]
 pub fn check(event: Event, world: World) -> Sound
     ensures { Allows event world result }
 {

@@ -22,6 +22,8 @@ joined_lt [] [] f = omega arith
 joined_lt (k ∷ ks) (x ∷ xs) (h, f) =
     rw (pow-add 2 k (total ks))
     (omega (arith, joined_lt ks xs f, suc-mul x (2 ^ total ks), mul-le-mul_right {m = suc x} {n = 2 ^ k} (2 ^ total ks) h))
+joined_lt [] (x ∷ xs) f = elim f [ ]
+joined_lt (k ∷ ks) [] f = elim f [ ]
 
 -- a word h above a layout of k and t bits stands above the first field and the rest
 above : (h k x t j : ℕ) → h * 2 ^ (k + t) + (x * 2 ^ t + j) ≡ (h * 2 ^ k + x) * 2 ^ t + j
@@ -33,6 +35,8 @@ fields_above [] [] h f = refl
 fields_above (k ∷ ks) (x ∷ xs) h (l, f) =
     rw (above h k x (total ks) (joined ks xs), high (h * 2 ^ k + x) (total ks) (joined_lt ks xs f), low h k l)
     (ap (λ (r : List ℕ). x ∷ r) (fields_above ks xs (h * 2 ^ k + x) f))
+fields_above [] (x ∷ xs) h f = elim f [ ]
+fields_above (k ∷ ks) [] h f = elim f [ ]
 
 pub fields_join : (ks xs : List ℕ) → Fit ks xs → fields ks (joined ks xs) ≡ xs
 fields_join ks xs f = rw (zero-mul, zero-add) at (fields_above ks xs 0 f)
@@ -46,6 +50,8 @@ pushed h (k ∷ ks) (x ∷ xs) = pushed (h * 2 ^ k + x) ks xs
 pushed_above : (ks xs : List ℕ) (h : ℕ) → Fit ks xs → pushed h ks xs ≡ h * 2 ^ total ks + joined ks xs
 pushed_above [] [] h f = omega arith
 pushed_above (k ∷ ks) (x ∷ xs) h (l, f) = pushed_above ks xs (h * 2 ^ k + x) f ∙ sym (above h k x (total ks) (joined ks xs))
+pushed_above [] (x ∷ xs) h f = elim f [ ]
+pushed_above (k ∷ ks) [] h f = elim f [ ]
 
 pub pushed_joins : (ks xs : List ℕ) → Fit ks xs → pushed 0 ks xs ≡ joined ks xs
 pushed_joins ks xs f = pushed_above ks xs 0 f ∙ rw (zero-mul, zero-add)

@@ -2,6 +2,8 @@
 //
 // The calls take every value of their parameter's type and answer document 01's refusal where it
 // has one: nothing panics, wraps or is masked away.
+#![tactic(auto)]
+
 ghost use Rattle.std.specs.Prelude.{◌+◌, ◌*◌, ◌/◌, ◌%◌, ◌^◌, ◌≤◌, ◌<◌, ◌≡◌};
 ghost use Rattle.frame.specs.Frame.{widths, parts, version, frame_of, word_of, bad_round, bad_value, unnamed, Unpacks, Judges, Packs};
 ghost use Rattle.frame.specs.Layout.{Fit};
@@ -9,7 +11,7 @@ ghost use Rattle.frame.specs.Layout.{Fit};
 // What a frame says. Kind: 0 VAL, 1 AUX. Round 1 to 16, phase 1 or 2, stage 0 or 1. Value: 0, 1, or
 // 2 for "neither". A struct of these may hold any numbers: `pack` refuses what a frame can't say.
 #[repr(C)]
-#[derive(Drop)]
+#[derive(Clone, Copy, Drop)]
 pub struct Frame {
     pub kind: u8,
     pub round: u8,
@@ -19,25 +21,26 @@ pub struct Frame {
     pub sender: u8,
 }
 
-#[derive(Drop)]
+#[derive(Clone, Copy, Drop)]
 pub enum Unpacked {
     Frame(Frame),
     Refused(u8),
 }
 
-#[derive(Drop)]
+#[derive(Clone, Copy, Drop)]
 pub enum Sound {
     Yes,
     Refused(u8),
 }
 
-#[derive(Drop)]
+#[derive(Clone, Copy, Drop)]
 pub enum Packed {
     Word(u16),
     Refused(u8),
 }
 
 // The frame that a word holds: refusals 7, 8, 9.
+#[tactic(auto, unfolding(crate::specs::Frame::unpacking))]
 pub fn unpack(word: u16) -> Unpacked
     ensures { Unpacks word result }
 {
@@ -58,6 +61,7 @@ pub fn unpack(word: u16) -> Unpacked
 }
 
 // Whether a frame can be said at all, whoever its sender is: refusals 8, 9, 5.
+#[tactic(auto, unfolding(crate::specs::Frame::judging))]
 pub fn check(frame: Frame) -> Sound
     ensures { Judges frame result }
 {
@@ -77,6 +81,7 @@ pub fn check(frame: Frame) -> Sound
 }
 
 // The word that holds a frame: refusals 8, 9, 5.
+#[tactic(auto, unfolding(crate::specs::Frame::packing, crate::specs::Frame::judging))]
 pub fn pack(frame: Frame) -> Packed
     ensures { Packs frame result }
 {
@@ -118,6 +123,7 @@ fn version_of(word: u16) -> u8
 }
 
 // The other fields of a word, whatever they hold.
+#[tactic(auto, unfolding(crate::specs::Frame::frame_of))]
 fn read_fields(word: u16) -> Frame
     ensures { result ≡ frame_of word }
 {
@@ -132,6 +138,7 @@ fn read_fields(word: u16) -> Frame
 }
 
 // The word of a frame that no refusal holds back, under version 0.
+#[tactic(auto, unfolding(crate::specs::Frame::word_of))]
 fn write_fields(f: Frame) -> u16
     requires { (1 ≤ f.phase) × Fit widths (parts f) }
     ensures { result ≡ word_of f }
@@ -145,6 +152,7 @@ fn write_fields(f: Frame) -> u16
 }
 
 // The `width` bits of a word from its bit `low` up.
+#[tactic(auto, using(crate::proofs::Laws::low_bits))]
 fn bits_from(word: u16, low: u32, width: u32) -> u8
     requires { (low < 16) × (width < 9) }
     ensures { result ≡ word / 2 ^ low % 2 ^ width }
@@ -153,6 +161,7 @@ fn bits_from(word: u16, low: u32, width: u32) -> u8
 }
 
 // The word moved up by `width` bits, with a field of that width put below it.
+#[tactic(auto, using(crate::proofs::Laws::shl_or))]
 fn put_below(word: u16, width: u32, field: u8) -> u16
     requires { (width < 16) × (field < 2 ^ width) × (word * 2 ^ width + field < 65536) }
     ensures { result ≡ word * 2 ^ width + field }

@@ -3,6 +3,8 @@
 // the crates `delivery`, `turn` and `view`.
 //
 // Each call takes every value of its parameters' types: none asks anything of its caller.
+#![tactic(auto)]
+
 ghost use Rattle.std.specs.Prelude.{◌≡◌, ◌-◌};
 ghost use Rattle.host.specs.Calls.{Strays, Readies, Numbers};
 
@@ -12,7 +14,7 @@ use quorum::{Checked, World};
 // and in stage 0 the estimate; estimate 0 or 1; decision 0, 1 or 2 for none; frames broadcast, 0 to
 // 224; standing 0 honest, 1 finished, 2 broken, 3 lying; sixteen coin bits, round 1 the highest.
 #[repr(C)]
-#[derive(Drop)]
+#[derive(Clone, Copy, Drop)]
 pub struct Host {
     pub round: u8,
     pub phase: u8,
@@ -26,7 +28,7 @@ pub struct Host {
 }
 
 // The first number that passes a test.
-#[derive(Drop)]
+#[derive(Clone, Copy, Drop)]
 pub enum Place {
     At(usize),
     Nowhere,
@@ -42,6 +44,7 @@ pub fn out_of_range(h: Host) -> bool
 }
 
 // The thresholds for a call on so many lent words, this record and this world: refusals 13, 2, 3.
+#[tactic(auto, unfolding(crate::specs::Calls::readying, quorum::specs::World::checking))]
 pub fn ready(words: usize, host: Host, world: World) -> Checked
     ensures { Readies words host world result }
 {

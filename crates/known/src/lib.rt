@@ -1,1 +1,2 @@
 // The known points that are proved: one statement about the definitions, in specs/ and proofs/.
+#![tactic(auto)]

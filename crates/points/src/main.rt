@@ -1,5 +1,7 @@
 // Runs document 01's known points on sizes, frames and the decision of phase 2, with a star or
 // without, and prints what the calls answer. Then numbers and frames that are no world and no frame.
+#![tactic(auto)]
+
 use frame::{Frame, Packed, Unpacked};
 use host::Host;
 use libc::STDOUT_FILENO;

@@ -1,26 +1,28 @@
 // The world of a vote: how many hosts there are, how many of them may lie, and the thresholds that
 // follow from these two numbers; and sets of hosts as words.
+#![tactic(auto)]
+
 ghost use Rattle.std.specs.Prelude.{◌*◌, ◌≤◌, ◌<◌, ◌≡◌};
 ghost use Rattle.quorum.specs.Sets.{Has};
 ghost use Rattle.quorum.specs.World.{Makes, Checks, bad_hosts, bad_liars, thresholds_of};
 
 // n hosts, numbered from 0, of which up to t may lie. It goes by value to every call that asks for it.
 #[repr(C)]
-#[derive(Drop)]
+#[derive(Clone, Copy, Drop)]
 pub struct World {
     pub n: u32,
     pub t: u32,
 }
 
 // From how many senders on a value is echoed, a value is admitted, and a view is complete.
-#[derive(Drop)]
+#[derive(Clone, Copy, Drop)]
 pub struct Thresholds {
     pub echo: u32,
     pub admit: u32,
     pub view: u32,
 }
 
-#[derive(Drop)]
+#[derive(Clone, Copy, Drop)]
 pub enum Checked {
     Accepted(Thresholds),
     Refused(u8),
@@ -34,6 +36,7 @@ pub fn world_of(n: u32, t: u32) -> World
 }
 
 // The thresholds of a world: refusals 2, 3.
+#[tactic(auto, unfolding(crate::specs::World::checking))]
 pub fn check(world: World) -> Checked
     ensures { Checks world result }
 {

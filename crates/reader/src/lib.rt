@@ -3,6 +3,8 @@
 //
 // Each call takes every value of its parameters' types. The functions over the struct are few and
 // thin: each takes it apart or makes it, and calls a function of bytes and a number.
+#![tactic(auto)]
+
 ghost use Rattle.std.specs.Prelude.{◌≡◌};
 ghost use Rattle.file.specs.Reading.{Shows};
 ghost use Rattle.reader.specs.Reader.{behind as Reader·behind, Holds, GoesOn};
@@ -10,7 +12,7 @@ ghost use Rattle.reader.specs.Reader.{behind as Reader·behind, Holds, GoesOn};
 use file::Seen;
 
 // The bytes from the first event on, and a place in them.
-#[derive(Drop)]
+#[derive(Clone, Copy, Drop)]
 pub struct Reader<'a> {
     pub events: &'a [u8],
     pub at: usize,

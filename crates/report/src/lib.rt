@@ -3,6 +3,8 @@
 //
 // Each call takes every value of its parameters' types and answers document 01's refusal where it
 // has one. A refused call changes no byte; an accepted one changes none behind its line.
+#![tactic(auto)]
+
 mod put;
 
 ghost use Rattle.std.specs.Prelude.{◌≤◌, ◌≡◌, length};
@@ -13,7 +15,7 @@ use host::Host;
 use quorum::{Checked, World};
 
 // The length of the line that stands at the start of the bytes, or a refusal.
-#[derive(Drop)]
+#[derive(Clone, Copy, Drop)]
 pub enum Line {
     Written(usize),
     Refused(u8),
@@ -23,6 +25,7 @@ pub enum Line {
 const ROOM: usize = 80;
 
 // "refused C": refusal 13.
+#[tactic(auto, unfolding(crate::specs::Text::text))]
 pub fn refusal_line(out: &mut [u8], number: u8) -> Line
     ensures { WritesRefusal out.old number result out.new }
 {
@@ -30,6 +33,7 @@ pub fn refusal_line(out: &mut [u8], number: u8) -> Line
 }
 
 // "event K refused C", where the first event is 1: refusal 13.
+#[tactic(auto, unfolding(crate::specs::Text::text))]
 pub fn event_line(out: &mut [u8], event: u32, number: u8) -> Line
     ensures { WritesEvent out.old event number result out.new }
 {
@@ -37,6 +41,7 @@ pub fn event_line(out: &mut [u8], event: u32, number: u8) -> Line
 }
 
 // "host I lying", or the host's number, its standing and the rest of its record: refusals 13, 2, 3, 5.
+#[tactic(auto, unfolding(crate::specs::Lines::writing))]
 pub fn host_line(out: &mut [u8], me: u32, host: Host, world: World) -> Line
     ensures { WritesHost out.old me host world result out.new }
 {
@@ -55,6 +60,7 @@ pub fn host_line(out: &mut [u8], me: u32, host: Host, world: World) -> Line
 }
 
 // "events K refused M": refusal 13.
+#[tactic(auto, unfolding(crate::specs::Text::text))]
 pub fn totals_line(out: &mut [u8], events: u32, refused: u32) -> Line
     ensures { WritesTotals out.old events refused result out.new }
 {
@@ -62,6 +68,7 @@ pub fn totals_line(out: &mut [u8], events: u32, refused: u32) -> Line
 }
 
 // A line of at most two numbers.
+#[tactic(auto, unfolding(crate::specs::Lines::writing))]
 fn write(out: &mut [u8], text: &[u8], first: u32, second: u32) -> Line
     requires { (holes text.now ≤ 7) × (length (filled text.now 0 (two first second)) ≤ 80) }
     ensures { WritesTwo out.old text.now first second result out.new }
@@ -88,6 +95,7 @@ fn numbers_of(me: u32, host: Host) -> [u32; 7]
 }
 
 // The line of a host with this standing.
+#[tactic(auto, unfolding(crate::specs::Text::text, crate::specs::Parts::host_pattern))]
 fn put_host(out: &mut [u8], standing: u8, numbers: [u32; 7]) -> usize
     requires { length (filled (host_pattern standing) 0 numbers) ≤ length out.old }
     ensures { Puts 0 out.old (filled (host_pattern standing) 0 numbers) result out.new }

@@ -6,6 +6,7 @@ ghost use Rattle.report.specs.Text.{digit as Text·digit};
 ghost use Rattle.report.specs.Parts.{or_dash, holes, filled, Puts};
 
 // One digit.
+#[tactic(auto, unfolding(crate::specs::Parts::put))]
 fn digit(out: &mut [u8], at: usize, d: u32) -> usize
     requires { (d < 10) × (at < length out.old) }
     ensures { Puts at out.old (Text·digit d ∷ []) result out.new }
@@ -27,6 +28,7 @@ fn number(out: &mut [u8], at: usize, n: u32) -> usize
 }
 
 // A number, or "-" for a 2 where that says that there is none.
+#[tactic(auto, unfolding(crate::specs::Text::text, crate::specs::Parts::put))]
 fn field(out: &mut [u8], at: usize, dash: bool, n: u32) -> usize
     requires { at + length (or_dash dash n) ≤ length out.old }
     ensures { Puts at out.old (or_dash dash n) result out.new }

@@ -16,7 +16,7 @@ use turn::Turned;
 const MOST: u32 = 4294967295;
 
 // What an event does to its host's record: the next one, or nothing.
-#[derive(Drop)]
+#[derive(Clone, Copy, Drop)]
 pub(crate) enum Settled {
     Next(Host),
     Refused(u8),

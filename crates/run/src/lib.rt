@@ -3,6 +3,8 @@
 //
 // Each call takes every value of its parameters' types and answers document 01's refusal where it
 // has one. Nothing is kept between calls: a run is its struct and its table.
+#![tactic(auto)]
+
 mod events;
 mod opening;
 
@@ -18,7 +20,7 @@ use quorum::{Checked, World};
 // A run: the records of 32 hosts, those from n on being liars', its world, how many events it has
 // taken and how many of these were refused.
 #[repr(C)]
-#[derive(Drop)]
+#[derive(Clone, Copy, Drop)]
 pub struct Run {
     pub hosts: [Host; 32],
     pub world: World,
@@ -27,7 +29,7 @@ pub struct Run {
 }
 
 // The world of a run file or its refusal, and the run beside it: a run of nobody where it is refused.
-#[derive(Drop)]
+#[derive(Clone, Copy, Drop)]
 pub struct Started {
     pub answer: Header,
     pub run: Run,
@@ -35,14 +37,14 @@ pub struct Started {
 
 // The world of a run file or its refusal, and the part beside it: the caller's own bytes from the
 // first event on, none where it is refused.
-#[derive(Drop)]
+#[derive(Clone, Copy, Drop)]
 pub struct Opened<'a> {
     pub answer: Header,
     pub rest: &'a [u8],
 }
 
 // Why a call stopped playing: nothing is left, an event was refused by this number, or the call was.
-#[derive(Drop)]
+#[derive(Clone, Copy, Drop)]
 pub enum Stop {
     End,
     Event(u8),
@@ -50,7 +52,7 @@ pub enum Stop {
 }
 
 // What a call played: the run after it, how many of the bytes it took, and why it stopped.
-#[derive(Drop)]
+#[derive(Clone, Copy, Drop)]
 pub struct Played {
     pub run: Run,
     pub taken: usize,

@@ -4,6 +4,8 @@
 //
 // The call takes every value of its parameters' types and answers document 01's refusal where it
 // has one. A refused event changes no word.
+#![tactic(auto)]
+
 mod parts;
 
 ghost use Rattle.std.specs.Prelude.{◌≡◌};

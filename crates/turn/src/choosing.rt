@@ -10,7 +10,7 @@ use quorum::Thresholds;
 
 // A turn's move, with the instance and the value where it has them. A begin that broadcasts
 // nothing is one whose own value an echo had broadcast. A view has bit v set if it holds v.
-#[derive(Drop)]
+#[derive(Clone, Copy, Drop)]
 pub enum Move {
     Idle,
     Echo(usize, usize),

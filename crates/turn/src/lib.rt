@@ -3,6 +3,8 @@
 //
 // The call takes every value of its parameters' types and answers document 01's refusal where it
 // has one. A refused turn changes no word, and of an accepted one only marks change.
+#![tactic(auto)]
+
 mod applying;
 mod choosing;
 mod search;
@@ -16,7 +18,7 @@ use quorum::{Checked, World};
 
 // A turn that made no move, one that broadcast nothing and one that broadcast a frame to all hosts,
 // each with the host's record after it.
-#[derive(Drop)]
+#[derive(Clone, Copy, Drop)]
 pub enum Turned {
     Idle,
     Quiet(Host),

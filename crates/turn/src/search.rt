@@ -8,7 +8,7 @@ use crate::words;
 use host::Place;
 
 // An instance and a value.
-#[derive(Drop)]
+#[derive(Clone, Copy, Drop)]
 pub enum Found {
     At(usize, usize),
     Nothing,

@@ -1,5 +1,7 @@
 // After the view: where the view of an instance takes a host. What a view is stands in
 // specs/View.antt, with document 01's sentence and the paper's line at each rule.
+#![tactic(auto)]
+
 ghost use Rattle.std.specs.Prelude.{◌≡◌, cond, ◌-◌};
 ghost use Rattle.host.specs.Record.{coin, moved, stood};
 ghost use Rattle.view.specs.View.{only_of, phase_estimate, decided, round_estimate, after_round, Views};
@@ -7,6 +9,7 @@ ghost use Rattle.view.specs.View.{only_of, phase_estimate, decided, round_estima
 use host::Host;
 
 // Where a view takes a host. A view is a set of values: bit v is one where it holds v.
+#[tactic(auto, unfolding(crate::specs::View::after_view))]
 pub fn after_view(host: Host, view: u8) -> Host
     ensures { Views host view result }
 {
@@ -44,6 +47,7 @@ fn pick(b: bool, x: u8, y: u8) -> u8
 }
 
 // The value of a view of one value 0 or 1, else neither.
+#[tactic(auto, unfolding(crate::specs::View::only_of))]
 fn only(view: u8) -> u8
     ensures { result ≡ only_of view }
 {
@@ -61,6 +65,7 @@ fn rounds_left(round: u8) -> u32
 }
 
 // The host's coin bit of its round, round 1 first.
+#[tactic(auto, unfolding(host::specs::Record::coin))]
 fn coin_of(h: Host) -> u8
     ensures { result ≡ coin h }
 {
@@ -69,6 +74,7 @@ fn coin_of(h: Host) -> u8
 }
 
 // The estimate after a view of phase 1.
+#[tactic(auto, unfolding(crate::specs::View::phase_estimate))]
 fn phase_estimate(view: u8, coin: u8) -> u8
     ensures { result ≡ phase_estimate view coin }
 {
@@ -77,6 +83,7 @@ fn phase_estimate(view: u8, coin: u8) -> u8
 }
 
 // The estimate after a view of phase 2.
+#[tactic(auto, unfolding(crate::specs::View::round_estimate))]
 fn round_estimate(view: u8, est: u8) -> u8
     ensures { result ≡ round_estimate view est }
 {
@@ -86,6 +93,7 @@ fn round_estimate(view: u8, est: u8) -> u8
 }
 
 // The decision after a view of phase 2.
+#[tactic(auto, unfolding(crate::specs::View::decided))]
 fn decision(view: u8, old: u8) -> u8
     ensures { result ≡ decided view old }
 {
@@ -93,6 +101,7 @@ fn decision(view: u8, old: u8) -> u8
 }
 
 // The next round, or after the last one finished.
+#[tactic(auto, unfolding(crate::specs::View::after_round))]
 fn next_round(h: Host, est: u8, decision: u8) -> Host
     ensures { result ≡ after_round h est decision }
 {

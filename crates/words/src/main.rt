@@ -1,5 +1,7 @@
 // Unpacks each of the 65,536 words, packs each accepted one again, and prints how many were
 // answered how.
+#![tactic(auto)]
+
 ghost use Rattle.std.specs.Prelude.{◌≡◌};
 ghost use Rattle.answer.specs.Answer.{number_of};
 ghost use Rattle.frame.specs.Frame.{unpacking};

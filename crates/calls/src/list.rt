@@ -56,6 +56,7 @@ pub extern "C" fn coircord_step(
 }
 
 // What the number of a step's answer says.
+#[tactic(auto, unfolding(crate::specs::List::answer_of))]
 pub fn answer_of(number: u32) -> Stepped
     ensures { Answers number result }
 {
@@ -87,6 +88,7 @@ fn host_place(event: &[u8]) -> usize
 }
 
 // The place of the frame's sender.
+#[tactic(auto, unfolding(frame::specs::Frame::frame_of))]
 fn sender_place(event: &[u8]) -> usize
     ensures { (result ≡ sender_place (event_in event.now 0)) × (result < 32) }
 {
@@ -99,6 +101,7 @@ fn sender_place(event: &[u8]) -> usize
 }
 
 // The event with the records of its host and of its frame's sender.
+#[tactic(auto, unfolding(quorum::specs::World::checking))]
 fn meet(host: Host, sender: Host, table: &mut [u32], world: World, event: &[u8]) -> Done
     ensures { ◌≡◌ {A = ℕ × (Declared-as-Host × List ℕ)} (result.code, (result.host, table.new)) (done host (meeting host sender table.old world event.now)) }
 {

@@ -105,6 +105,7 @@ fn count(number: u32) -> u32
 }
 
 // The sender that an event's frame names, in the word's lowest five bits.
+#[tactic(auto, unfolding(frame::specs::Frame::frame_of))]
 fn sender_of(event: Event) -> usize
     ensures { (result ≡ sender_in event) × (result < 32) }
 {

@@ -30,6 +30,7 @@ pub(crate) fn refuse(number: u8) -> Started
 }
 
 // The run of this world with the records that stand behind the header: per record 1, 4.
+#[tactic(auto, unfolding(crate::specs::Starting::enrolled))]
 pub(crate) fn enrol(bytes: &[u8], world: World) -> Started
     requires { world.n ≤ 32 }
     ensures { ◌≡◌ {A = Answer Declared-as-World × Declared-as-Run} (header_says result.answer, result.run) (beside_it (past (records_guards bytes.now world.n) (accepted (first_run bytes.now world)))) }

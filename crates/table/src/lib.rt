@@ -22,6 +22,7 @@ use turn::Turned;
 // with the sent count at 224; for a delivery then 7, 8, 9, 5, 10, 11, 12. `host` is the record of
 // the event's host, `sender` that of the frame's sender, which a turn does not look at. A delivery
 // that is accepted answers as an idle turn does: it sends nothing and changes no record.
+#[tactic(auto, unfolding(crate::specs::Stepping::stepping))]
 pub fn step(table: &mut [u32], host: Host, sender: Host, world: World, event: Event) -> Turned
     ensures { Steps table.old host sender world event result table.new }
 {
@@ -37,6 +38,7 @@ pub fn step(table: &mut [u32], host: Host, sender: Host, world: World, event: Ev
 }
 
 // What stops an event before its host is looked at: 13, 2, 3, 4, 5.
+#[tactic(auto, unfolding(crate::specs::Stepping::readying, quorum::specs::World::checking, file::specs::Reading::allowing))]
 fn gate(words: usize, host: Host, sender: Host, world: World, event: Event) -> Sound
     ensures { sound_says result ≡ readying words host sender world event }
 {

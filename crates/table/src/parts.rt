@@ -14,6 +14,7 @@ use quorum::World;
 use turn::Turned;
 
 // A delivery to the event's host.
+#[tactic(auto, unfolding(crate::specs::Table::delivering_at))]
 pub(crate) fn deliver(
     table: &mut [u32],
     host: Host,
@@ -38,6 +39,7 @@ pub(crate) fn deliver(
 }
 
 // A turn of the event's host.
+#[tactic(auto, unfolding(crate::specs::Table::turning_at))]
 pub(crate) fn turn(table: &mut [u32], host: Host, world: World, event: Event) -> Turned
     requires { (event.host < 32) × (14336 ≤ length table.old) }
     ensures { ◌≡◌ {A = Answer Turn × List ℕ} (turned_says result, table.new) (turning_at table.old host world event) }
@@ -48,6 +50,7 @@ pub(crate) fn turn(table: &mut [u32], host: Host, world: World, event: Event) ->
 }
 
 // Whether a packed frame is one that its sender lies about or has broadcast.
+#[tactic(auto, unfolding(crate::specs::Table::said))]
 fn said(table: &[u32], sender: Host, world: World, word: u16) -> bool
     requires { 14336 ≤ length table.now }
     ensures { result ≡ Table·said table.now sender world word }

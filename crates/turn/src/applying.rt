@@ -14,6 +14,7 @@ use quorum::Thresholds;
 
 // The turn of a host whose thresholds are known: refusals 5, 6, 10, and 13 where the move would
 // broadcast with the sent count at 224.
+#[tactic(auto, unfolding(crate::specs::Turning::taking))]
 pub(crate) fn take(sets: &mut [u32], host: Host, at: Thresholds, n: u32, me: u32) -> Turned
     requires { Valid host × (1 ≤ at.echo) × (1 ≤ at.admit) × (n ≤ 32) × (448 ≤ length sets.old) }
     ensures { ◌≡◌ {A = Answer Turn × List ℕ} (turned_says result, sets.new) (taking sets.old host at n me) }

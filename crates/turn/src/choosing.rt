@@ -22,6 +22,7 @@ pub enum Move {
 }
 
 // Echo, else admit, else proceed.
+#[tactic(auto, unfolding(crate::specs::Moves::chosen))]
 pub(crate) fn choose(sets: &[u32], host: Host, at: Thresholds) -> Move
     requires { Valid host × (1 ≤ at.echo) × (1 ≤ at.admit) × (448 ≤ length sets.now) }
     ensures { result ≡ chosen sets.now host at }
@@ -39,6 +40,7 @@ pub(crate) fn choose(sets: &[u32], host: Host, at: Thresholds) -> Move
 }
 
 // The move in the current instance.
+#[tactic(auto, unfolding(crate::specs::Moves::proceeding))]
 fn proceed(sets: &[u32], host: Host, need: u32, inst: usize) -> Move
     requires { Valid host × (inst < 64) × (448 ≤ length sets.now) }
     ensures { result ≡ proceeding sets.now host need inst }
@@ -57,6 +59,7 @@ fn proceed(sets: &[u32], host: Host, need: u32, inst: usize) -> Move
 }
 
 // Begin, with a broadcast of the own value unless an echo had sent it.
+#[tactic(auto, unfolding(crate::specs::Moves::beginning))]
 fn begin(sets: &[u32], inst: usize, own: usize) -> Move
     requires { (inst < 64) × (own < 3) × (448 ≤ length sets.now) }
     ensures { result ≡ beginning sets.now inst own }
@@ -95,6 +98,7 @@ fn answer(sets: &[u32], inst: usize) -> Move
 }
 
 // The senders whose AUX is of this value, where it is admitted.
+#[tactic(auto, unfolding(crate::specs::Moves::heard))]
 fn heard_with(sets: &[u32], inst: usize, value: usize) -> u32
     requires { (inst < 64) × (value < 3) × (448 ≤ length sets.now) }
     ensures { result ≡ heard sets.now inst value }
@@ -115,6 +119,7 @@ fn bit_unless(empty: bool, bit: u8) -> u8
 }
 
 // The values that someone was heard with.
+#[tactic(auto, unfolding(crate::specs::Moves::view_of))]
 fn view_of(zero: u32, one: u32, neither: u32) -> u8
     ensures { result ≡ view_of zero one neither }
 {
@@ -122,6 +127,7 @@ fn view_of(zero: u32, one: u32, neither: u32) -> u8
 }
 
 // The view, once enough senders are heard.
+#[tactic(auto, unfolding(crate::specs::Moves::viewing, crate::specs::Moves::viewers))]
 fn complete(sets: &[u32], need: u32, inst: usize) -> Move
     requires { (inst < 64) × (448 ≤ length sets.now) }
     ensures { result ≡ viewing sets.now need inst }

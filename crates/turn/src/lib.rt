@@ -28,6 +28,7 @@ pub enum Turned {
 
 // Makes the one move that a host has to make, as host number `me`: refusals 13, 2, 3, 5, 6, 10, and
 // 13 where the move would broadcast with the sent count at 224.
+#[tactic(auto, unfolding(host::specs::Calls::readying))]
 pub fn turn(sets: &mut [u32], host: Host, world: World, me: u32) -> Turned
     ensures { Turns sets.old host world me result sets.new }
 {

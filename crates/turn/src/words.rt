@@ -13,6 +13,7 @@ pub const BEGUN: usize = 6;
 pub const AUX_SENT: usize = 7;
 
 // An instance's senders of a kind and a value.
+#[tactic(auto, unfolding(host::specs::Words::senders))]
 pub(crate) fn set_of(sets: &[u32], kind: usize, inst: usize, value: usize) -> u32
     requires { (kind < 2) × (inst < 64) × (value < 3) × (448 ≤ length sets.now) }
     ensures { result ≡ senders sets.now kind inst value }
@@ -21,6 +22,7 @@ pub(crate) fn set_of(sets: &[u32], kind: usize, inst: usize, value: usize) -> u3
 }
 
 // An instance's marks.
+#[tactic(auto, unfolding(host::specs::Words::marks))]
 pub(crate) fn marks_of(sets: &[u32], inst: usize) -> u32
     requires { (inst < 64) × (448 ≤ length sets.now) }
     ensures { result ≡ marks sets.now inst }
@@ -29,6 +31,7 @@ pub(crate) fn marks_of(sets: &[u32], inst: usize) -> u32
 }
 
 // Sets mark j of an instance.
+#[tactic(auto, unfolding(host::specs::Words::put))]
 pub(crate) fn put_mark(sets: &mut [u32], inst: usize, j: usize)
     requires { (inst < 64) × (j < 32) × (448 ≤ length sets.old) }
     ensures { sets.new ≡ mark sets.old inst j }

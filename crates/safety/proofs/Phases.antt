@@ -24,7 +24,7 @@ pub data In (C : Vote) (D : History) : ℕ → ℕ → Slot → Val → Type 0 w
   kept : {i r : ℕ} {W : View} {v : Val} → D i (saw r (stage1 phase2) W) → Only W neither → In C D i r (stage0 phase2) v → In C D i (suc r) (stage0 phase1) v
   decided : {i r k : ℕ} {q : Slot} {W : View} {v : Val} → D i (saw k (stage1 phase2) W) → Bit v → Only W v → k < r → In C D i r q v
 
-pub in_mono : {C : Vote} {i r : ℕ} {q : Slot} {v : Val} (D E : History) → Grows D E → In C D i r q v → In C E i r q v
+pub in_mono : {C : Vote} (D E : History) {i r : ℕ} {q : Slot} {v : Val} → Grows D E → In C D i r q v → In C E i r q v
 in_mono D E k (first h b d) = first h b (k _ _ d)
 in_mono D E k (same d o) = same (k _ _ d) o
 in_mono D E k (mixed d x y) = mixed (k _ _ d) x y
@@ -110,31 +110,33 @@ module _ (C : Vote) (D : History) (S : Sound D (In C D)) where
   abbrev Lock : ℕ → Type 0
   Lock r = (i : ℕ) (v : Val) (W : View) → D i (saw r (stage1 phase2) W) → Bit v → Only W v → All C D (suc r) (stage0 phase1) (λ w. w ≡ v)
 
-  module _ (r : ℕ) (L : (k : ℕ) → k < r → Lock k) where
-    -- after a decision in an earlier round all enter with its value
-    late : {k i : ℕ} {v : Val} {W : View} → k < r → D i (saw k (stage1 phase2) W) → Bit v → Only W v → (q : Slot) → All C D r q (λ w. w ≡ v)
-    late {k} {i} {v} {W} l d b o q = all_from (λ w. w ≡ v) (is_closed v b) l (L k l i v W d b o) q
+  -- after a decision in an earlier round all enter with its value
+  late : (r : ℕ) (L : (k : ℕ) → k < r → Lock k) {k i : ℕ} {v : Val} {W : View} → k < r → D i (saw k (stage1 phase2) W) → Bit v → Only W v
+      → (q : Slot) → All C D r q (λ w. w ≡ v)
+  late r L {k} {i} {v} {W} l d b o q = all_from (λ w. w ≡ v) (is_closed v b) l (L k l i v W d b o) q
 
-    -- the own values of a stage 1 hold at most one of 0 and 1
-    one_bit : {i j : ℕ} {p : Phase} {v w : Val} → In C D i r (stage1 p) v → In C D j r (stage1 p) w → Bit v → Bit w → v ≡ w
-    one_bit (same d o) (same e u) b c = let (x, h, g) = S.meet d e in sym (o.1 x h) ∙ u.1 x g
-    one_bit (same d o) (mixed _ _ _) b c = absurd c
-    one_bit (same d o) (decided e c u l) _ _ = late l e c u (stage1 _) _ _ (same d o)
-    one_bit (mixed _ _ _) z b c = absurd b
-    one_bit (decided d b o l) z _ _ = sym (late l d b o (stage1 _) _ _ z)
+  -- the own values of a stage 1 hold at most one of 0 and 1
+  one_bit : (r : ℕ) (L : (k : ℕ) → k < r → Lock k) {i j : ℕ} {p : Phase} {v w : Val} → In C D i r (stage1 p) v → In C D j r (stage1 p) w → Bit v
+      → Bit w → v ≡ w
+  one_bit r L (same d o) (same e u) b c = let (x, h, g) = S.meet d e in sym (o.1 x h) ∙ u.1 x g
+  one_bit r L (same d o) (mixed _ _ _) b c = absurd c
+  one_bit r L (same d o) (decided e c u l) _ _ = late r L l e c u (stage1 _) _ _ (same d o)
+  one_bit r L (mixed _ _ _) z b c = absurd b
+  one_bit r L (decided d b o l) z _ _ = sym (late r L l d b o (stage1 _) _ _ z)
 
-    mutex : {i j : ℕ} {p : Phase} {v w : Val} {W X : View} → D i (saw r (stage1 p) W) → D j (saw r (stage1 p) X) → Bit v → Bit w → W v ≡ true → X w ≡ true → v ≡ w
-    mutex d e b c h g = one_bit (S.just d h).1 (S.just e g).1 b c
+  mutex : (r : ℕ) (L : (k : ℕ) → k < r → Lock k) {i j : ℕ} {p : Phase} {v w : Val} {W X : View} → D i (saw r (stage1 p) W)
+      → D j (saw r (stage1 p) X) → Bit v → Bit w → W v ≡ true → X w ≡ true → v ≡ w
+  mutex r L d e b c h g = one_bit r L (S.just d h).1 (S.just e g).1 b c
 
-    lock : Lock r
-    lock _ v W d b o i w (seen e c h) = mutex e d c b h o.0
-    lock _ v W d b o i w (kept e u _) =
-        let (x, h, g) = S.meet d e in absurd (not_bit v (sym (o.1 x h) ∙ u.1 x g) b)
-    lock _ v W d b o i w (decided {k} e c u l) =
-        elim (dec_lt k r) [
-          | yes g ↦ sym (view_all {P = λ x. x ≡ w} (late g e c u (stage1 phase2)) d o.0)
-          | no g ↦ let x : k ≡ r = omega arith in mutex (rw x at e) d c b u.0 o.0
-        ]
+  lock : (r : ℕ) (L : (k : ℕ) → k < r → Lock k) → Lock r
+  lock r L _ v W d b o i w (seen e c h) = mutex r L e d c b h o.0
+  lock r L _ v W d b o i w (kept e u _) =
+      let (x, h, g) = S.meet d e in absurd (not_bit v (sym (o.1 x h) ∙ u.1 x g) b)
+  lock r L _ v W d b o i w (decided {k} e c u l) =
+      elim (dec_lt k r) [
+        | yes g ↦ sym (view_all {P = λ x. x ≡ w} (late r L g e c u (stage1 phase2)) d o.0)
+        | no g ↦ let x : k ≡ r = omega arith in mutex r L (rw x at e) d c b u.0 o.0
+      ]
 
   locks : (r k : ℕ) → k < r → Lock k
   locks zero k l = absurd (omega arith)

@@ -14,8 +14,8 @@ use Rattle.file.specs.Reading.{piece_guards, event_in}
 use Rattle.file.specs.declared.Event.{Event}
 use Rattle.turn.specs.Applying.{Turn}
 use Rattle.run.specs.Starting.{fresh_run}
-use Rattle.run.specs.Playing.{host_in, no_host, happens, settled}
-use Rattle.calls.specs.List.{code, listed, listing, coded, StepsList}
+use Rattle.run.specs.Playing.{host_in, no_host, happens}
+use Rattle.calls.specs.List.{listed, listing, coded, StepsList}
 use Rattle.calls.specs.Parts.{host_place, sender_place, between, table_guards, meeting, record_from, done}
 
 abbrev at : List Host → ℕ → Host

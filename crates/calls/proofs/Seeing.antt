@@ -1,13 +1,13 @@
 -- What is seen at a place, as the event there or its refusal. Assumes nothing.
 use Prim.Native.Nat.{ℕ}
-use mathlib.Core.Path.{◌≡◌, refl, ap, ◌∙◌}
+use mathlib.Core.Path.{◌≡◌, refl}
 use mathlib.Core.Bool.{Bool, true, false, cond}
 use mathlib.Core.List.{List}
 use native.Mathlib.Omega.{arith}
 use lib.Dec.{eqb}
 use borrow.Author.Tests.{eqb-true}
 use Rattle.answer.specs.Answer.{Answer, refused}
-use Rattle.file.specs.Reading.{left_from, Sight, nothing, something, event_in, event_at}
+use Rattle.file.specs.Reading.{left_from, nothing, something, event_in, event_at}
 use Rattle.file.specs.declared.Event.{Event}
 
 -- where nothing is left, no whole event stands

@@ -5,7 +5,7 @@ use mathlib.Core.List.{List, ◌++◌}
 use native.Mathlib.Omega.{arith}
 use lib.ListN.{length, length-append}
 use lib.Seq.{length-take-le}
-use Rattle.io.specs.Counts.{IsPrefixLen}
+use Rattle.std.specs.Counts.{IsPrefixLen}
 
 pub counts : (xs ys : List ℕ) (r : ℕ) → r ≤ length xs → IsPrefixLen r (xs ++ ys)
 counts xs ys r l =

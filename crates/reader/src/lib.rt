@@ -7,7 +7,7 @@
 
 ghost use Rattle.std.specs.Prelude.{◌≡◌};
 ghost use Rattle.file.specs.Reading.{Shows};
-ghost use Rattle.reader.specs.Reader.{behind as Reader·behind, Holds, GoesOn};
+ghost use Rattle.reader.specs.Reader.{behind, Holds, GoesOn};
 
 use file::Seen;
 
@@ -52,7 +52,7 @@ pub fn event(bytes: &[u8], at: usize) -> Seen
 
 // The place behind what stands at a place.
 fn behind(bytes: &[u8], at: usize) -> usize
-    ensures { result ≡ Reader·behind bytes.now at }
+    ensures { result ≡ behind bytes.now at }
 {
     if bytes.len() <= at {
         return at;

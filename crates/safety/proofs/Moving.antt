@@ -27,11 +27,11 @@ use Rattle.turn.proofs.Choice.{echo_enough, echo_new, admit_enough, admit_new, b
 use Rattle.turn.proofs.Viewers.{heard_means, heard_when, viewer_heard, view_values, view_holds, view_small}
 use Rattle.turn.proofs.Within.{chosen_in}
 use Rattle.run.specs.Playing.{record_after}
-use Rattle.safety.proofs.Votes.{Val, phase1, Slot, stage0, View, Vote, Honest, History, made, saw, Add, old, new, Sound}
+use Rattle.safety.proofs.Votes.{Val, phase1, Slot, stage0, Vote, Honest, History, made, saw, Add, old, new, Sound}
 use Rattle.safety.proofs.Steps.{Viewed, Reached, step, allows, inv, sound, step_saw}
 use Rattle.safety.proofs.Phases.{phases, In}
 use Rattle.safety.proofs.Outcome.{never_split}
-use Rattle.safety.proofs.Reading.{num, val_of, num_val, num_low, inst, inst_of, inst_at, slot_of, phase_of, slot_at, val, aux, said_val, admits, said_aux, begun, at, Words, fits, holds, holds_parts, holds_when, fits_low, low_fits, lowest_has, says}
+use Rattle.safety.proofs.Reading.{num, val_of, num_val, num_low, inst, inst_of, inst_at, slot_of, phase_of, slot_at, val, aux, said_val, admits, said_aux, begun, Words, fits, holds, holds_parts, holds_when, fits_low, low_fits, lowest_has, says}
 use Rattle.safety.proofs.Putting.{aux_is, Reason}
 use Rattle.safety.proofs.Standing.{viewed, Stand, stand_mono, stand_after}
 use Rattle.safety.proofs.Voted.{Voted, voted_put, voted_hosts, stand_sent, put_one, put_none}

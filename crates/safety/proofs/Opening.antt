@@ -1,6 +1,6 @@
 -- How a run starts: the run that a file starts and a cleared table are those of a vote in which nothing has happened but the proposals. Assumes
 -- nothing.
-use Prim.Native.Nat.{ℕ, ◌-◌, ◌≤◌, ◌<◌}
+use Prim.Native.Nat.{ℕ, ◌≤◌, ◌<◌}
 use mathlib.Core.Path.{◌≡◌, refl}
 use mathlib.Core.Bool.{Bool, true, false, cond}
 use mathlib.Core.List.{List}

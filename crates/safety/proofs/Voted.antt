@@ -1,6 +1,6 @@
 -- What every event of a run keeps: its words are those of a vote that steps reach, and its honest hosts stand as the vote's history says. Assumes
 -- nothing.
-use Prim.Native.Nat.{ℕ, ◌-◌}
+use Prim.Native.Nat.{ℕ}
 use mathlib.Core.Path.{◌≡◌, refl}
 use Rattle.host.specs.Words.{put}
 use Rattle.host.specs.Record.{sent_one}

@@ -8,17 +8,22 @@ ghost use Rattle.frame.specs.Frame.{unpacking};
 ghost use Rattle.words.specs.Words.{tally};
 
 use frame::{Packed, Unpacked};
-use libc::STDOUT_FILENO;
+use std::io;
 
-fn main() {
-    print(b"refused 7: ", how_many(7));
-    print(b"refused 8: ", how_many(8));
-    print(b"refused 9: ", how_many(9));
-    print(b"accepted, and packed to the same word: ", how_many(SAME));
+fn main(rt: HostRuntime) -> io::Result<()> {
+    print(&rt, "refused 7: ", how_many(7))?;
+    print(&rt, "refused 8: ", how_many(8))?;
+    print(&rt, "refused 9: ", how_many(9))?;
     print(
-        b"accepted, and not packed to the same word: ",
+        &rt,
+        "accepted, and packed to the same word: ",
+        how_many(SAME),
+    )?;
+    print(
+        &rt,
+        "accepted, and not packed to the same word: ",
         how_many(OTHER),
-    );
+    )
 }
 
 // An accepted word is answered by one of these, which are no refusals of unpacking.
@@ -53,8 +58,6 @@ fn how_many(answer: u8) -> u32
     found
 }
 
-fn print(text: &[u8], number: u32) {
-    io::write_all(STDOUT_FILENO, text);
-    io::print_decimal(STDOUT_FILENO, number as u64);
-    io::write_all(STDOUT_FILENO, b"\n");
+fn print(rt: &impl Print, text: &str, number: u32) -> io::Result<()> {
+    println!(rt; "{text}{number}")
 }

@@ -25,7 +25,6 @@ pub enum Line {
 const ROOM: usize = 80;
 
 // "refused C": refusal 13.
-#[tactic(auto, unfolding(crate::specs::Text::text))]
 pub fn refusal_line(out: &mut [u8], number: u8) -> Line
     ensures { WritesRefusal out.old number result out.new }
 {
@@ -33,7 +32,6 @@ pub fn refusal_line(out: &mut [u8], number: u8) -> Line
 }
 
 // "event K refused C", where the first event is 1: refusal 13.
-#[tactic(auto, unfolding(crate::specs::Text::text))]
 pub fn event_line(out: &mut [u8], event: u32, number: u8) -> Line
     ensures { WritesEvent out.old event number result out.new }
 {
@@ -60,7 +58,6 @@ pub fn host_line(out: &mut [u8], me: u32, host: Host, world: World) -> Line
 }
 
 // "events K refused M": refusal 13.
-#[tactic(auto, unfolding(crate::specs::Text::text))]
 pub fn totals_line(out: &mut [u8], events: u32, refused: u32) -> Line
     ensures { WritesTotals out.old events refused result out.new }
 {

@@ -43,8 +43,8 @@ fn field(out: &mut [u8], at: usize, dash: bool, n: u32) -> usize
 // A text in which each '#' stands for the next of the numbers, and a '@' for the next of them or for
 // "-". It goes to the start.
 pub(crate) fn pattern(out: &mut [u8], text: &[u8], numbers: [u32; 7]) -> usize
-    requires text_bound { holes text.now ≤ 7 }
-    requires numbers_in_bounds { length (filled text.now 0 numbers) ≤ length out.old }
+    requires enough_numbers { holes text.now ≤ 7 }
+    requires enough_room { length (filled text.now 0 numbers) ≤ length out.old }
     ensures { Puts 0 out.old (filled text.now 0 numbers) result out.new }
 {
     let mut next = 0;

@@ -4,7 +4,7 @@ ghost use Rattle.answer.specs.Answer.{Answer};
 ghost use Rattle.delivery.specs.Delivery.{said_says, delivered_says};
 ghost use Rattle.turn.specs.Applying.{Turn};
 ghost use Rattle.turn.specs.Turning.{turned_says};
-ghost use Rattle.table.specs.Table.{agreed, passed, said as Table·said, delivering_at, turning_at};
+ghost use Rattle.table.specs.Table.{agreed, passed, said, delivering_at, turning_at};
 
 use delivery::{Delivered, Said};
 use file::Event;
@@ -53,7 +53,7 @@ pub(crate) fn turn(table: &mut [u32], host: Host, world: World, event: Event) ->
 #[tactic(auto, unfolding(crate::specs::Table::said))]
 fn said(table: &[u32], sender: Host, world: World, word: u16) -> bool
     requires { 14336 ≤ length table.now }
-    ensures { result ≡ Table·said table.now sender world word }
+    ensures { result ≡ said table.now sender world word }
 {
     let unpacked = frame::unpack(word);
     let Unpacked::Frame(frame) = unpacked else {

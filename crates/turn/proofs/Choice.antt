@@ -3,6 +3,7 @@ use Prim.Native.Nat.{ℕ, ◌+◌, ◌≤◌, ◌<◌}
 use mathlib.Core.Path.{◌≡◌, refl, sym, ap}
 use mathlib.Core.Bool.{Bool, true, false, cond, ◌&&◌, not, true≢false}
 use mathlib.Core.List.{List}
+use native.Mathlib.Omega.{arith}
 use lib.Dec.{ltb, leb}
 use borrow.Author.Tests.{ltb-true, leb-true, leb-false, lt-leb, not-true, not-false}
 use Rattle.answer.proofs.Tests.{both, either}
@@ -60,7 +61,7 @@ module _ (words : List ℕ) (h : Host) (need : ℕ) where
   beginning_gives : begun words (current h) ≡ false → Gives words h need (beginning words (current h) h.own)
   unfolding beginning
   beginning_gives g =
-      either (Gives words h need) (has_sent words VAL (current h) h.own) _ _ (λ e. (refl, g, e)) (λ e. (refl, refl, g, e))
+      either (Gives words h need) (has_sent words VAL (current h) h.own) _ _ (λ e. grind arith) (λ e. (refl, refl, g, e))
 
   proceeding_gives : Gives words h need (proceeding words h need (current h))
   unfolding proceeding

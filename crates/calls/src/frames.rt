@@ -19,8 +19,7 @@ pub struct WordAnswer {
 }
 
 // `frame::unpack`: refusals 7, 8, 9.
-#[unsafe(no_mangle)]
-pub extern "C" fn coircord_unpack(word: u16) -> FrameAnswer
+pub fn coircord_unpack(word: u16) -> FrameAnswer
     ensures { UnpacksFlat word result }
 {
     let unpacked = frame::unpack(word);
@@ -34,8 +33,7 @@ pub extern "C" fn coircord_unpack(word: u16) -> FrameAnswer
 }
 
 // `frame::pack`: refusals 8, 9, 5.
-#[unsafe(no_mangle)]
-pub extern "C" fn coircord_pack(frame: Frame) -> WordAnswer
+pub fn coircord_pack(frame: Frame) -> WordAnswer
     ensures { PacksFlat frame result }
 {
     let packed = frame::pack(frame);

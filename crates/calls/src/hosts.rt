@@ -30,8 +30,7 @@ pub struct TurnAnswer {
 }
 
 // `delivery::deliver`: refusals 13, 2, 3, 6, 8, 9, 5, 10, 11, 12.
-#[unsafe(no_mangle)]
-pub extern "C" fn coircord_deliver(
+pub fn coircord_deliver(
     sets: &mut [u32],
     host: Host,
     world: World,
@@ -45,8 +44,7 @@ pub extern "C" fn coircord_deliver(
 }
 
 // `delivery::deliver_word`: refusals 13, 2, 3, 6, 7, 8, 9, 5, 10, 11, 12.
-#[unsafe(no_mangle)]
-pub extern "C" fn coircord_deliver_word(
+pub fn coircord_deliver_word(
     sets: &mut [u32],
     host: Host,
     world: World,
@@ -60,8 +58,7 @@ pub extern "C" fn coircord_deliver_word(
 }
 
 // `delivery::may_send`: refusals 13, 2, 3, 8, 9, 5.
-#[unsafe(no_mangle)]
-pub extern "C" fn coircord_may_send(
+pub fn coircord_may_send(
     sets: &[u32],
     host: Host,
     world: World,
@@ -81,8 +78,7 @@ pub extern "C" fn coircord_may_send(
 
 // `turn::turn`: refusals 13, 2, 3, 5, 6, 10, and 13 where the move would broadcast with the sent
 // count at 224.
-#[unsafe(no_mangle)]
-pub extern "C" fn coircord_turn(sets: &mut [u32], host: Host, world: World, me: u32) -> TurnAnswer
+pub fn coircord_turn(sets: &mut [u32], host: Host, world: World, me: u32) -> TurnAnswer
     ensures { TurnsFlat sets.old host world me result sets.new }
 {
     let blank = frames::no_frame();

@@ -1,5 +1,4 @@
-// The calls for programs in other languages: the archive of this crate has each of them under its
-// name. Their declarations in C, with what a caller must keep to, stand in include/coircord.h.
+// The calls for programs in other languages, which `calls_c` exports, each under its name.
 //
 // An enum can't cross to another language, so an answer is a struct of numbers: `refused` is document
 // 01's number, or 0, and what stands beside a refusal is blank. Each call does what the call of the

@@ -17,8 +17,7 @@ pub struct LineAnswer {
 }
 
 // `report::refusal_line`: refusal 13.
-#[unsafe(no_mangle)]
-pub extern "C" fn coircord_refusal_line(out: &mut [u8], number: u8) -> LineAnswer
+pub fn coircord_refusal_line(out: &mut [u8], number: u8) -> LineAnswer
     ensures { WritesRefusalFlat out.old number result out.new }
 {
     let line = report::refusal_line(out, number);
@@ -26,8 +25,7 @@ pub extern "C" fn coircord_refusal_line(out: &mut [u8], number: u8) -> LineAnswe
 }
 
 // `report::event_line`: refusal 13.
-#[unsafe(no_mangle)]
-pub extern "C" fn coircord_event_line(out: &mut [u8], event: u32, number: u8) -> LineAnswer
+pub fn coircord_event_line(out: &mut [u8], event: u32, number: u8) -> LineAnswer
     ensures { WritesEventFlat out.old event number result out.new }
 {
     let line = report::event_line(out, event, number);
@@ -35,8 +33,7 @@ pub extern "C" fn coircord_event_line(out: &mut [u8], event: u32, number: u8) ->
 }
 
 // `report::host_line`: refusals 13, 2, 3, 5.
-#[unsafe(no_mangle)]
-pub extern "C" fn coircord_host_line(
+pub fn coircord_host_line(
     out: &mut [u8],
     me: u32,
     host: Host,
@@ -49,8 +46,7 @@ pub extern "C" fn coircord_host_line(
 }
 
 // `report::totals_line`: refusal 13.
-#[unsafe(no_mangle)]
-pub extern "C" fn coircord_totals_line(out: &mut [u8], events: u32, refused: u32) -> LineAnswer
+pub fn coircord_totals_line(out: &mut [u8], events: u32, refused: u32) -> LineAnswer
     ensures { WritesTotalsFlat out.old events refused result out.new }
 {
     let line = report::totals_line(out, events, refused);

@@ -35,8 +35,7 @@ pub struct Done {
 // Plays one event: two records of the list are read, one is written back. Refusals 13, 2, 3, 1, then
 // the event's own; bytes behind the event are not looked at. The answer is a number, of which
 // `answer_of` tells what it means.
-#[unsafe(no_mangle)]
-pub extern "C" fn coircord_step(
+pub fn coircord_step(
     hosts: &mut [Host],
     table: &mut [u32],
     world: World,

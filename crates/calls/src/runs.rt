@@ -26,8 +26,7 @@ pub struct PlayAnswer {
 }
 
 // `run::start`: refusals 1, 2, 3, 4, then per host record 1, 4.
-#[unsafe(no_mangle)]
-pub extern "C" fn coircord_start(bytes: &[u8]) -> StartAnswer
+pub fn coircord_start(bytes: &[u8]) -> StartAnswer
     ensures { StartsFlat bytes.now result }
 {
     let started = run::start(bytes);
@@ -48,8 +47,7 @@ pub extern "C" fn coircord_start(bytes: &[u8]) -> StartAnswer
 }
 
 // `run::play`: refusals 13, 2, 3.
-#[unsafe(no_mangle)]
-pub extern "C" fn coircord_play(run: Run, table: &mut [u32], bytes: &[u8]) -> PlayAnswer
+pub fn coircord_play(run: Run, table: &mut [u32], bytes: &[u8]) -> PlayAnswer
     ensures { PlaysFlat run table.old bytes.now result table.new }
 {
     let played = run::play(run, table, bytes);

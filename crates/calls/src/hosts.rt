@@ -30,13 +30,7 @@ pub struct TurnAnswer {
 }
 
 // `delivery::deliver`: refusals 13, 2, 3, 6, 8, 9, 5, 10, 11, 12.
-pub fn coircord_deliver(
-    sets: &mut [u32],
-    host: Host,
-    world: World,
-    frame: Frame,
-    said: bool,
-) -> u8
+pub fn coircord_deliver(sets: &mut [u32], host: Host, world: World, frame: Frame, said: bool) -> u8
     ensures { DeliversFlat sets.old host world frame said result sets.new }
 {
     let delivered = delivery::deliver(sets, host, world, frame, said);
@@ -58,12 +52,7 @@ pub fn coircord_deliver_word(
 }
 
 // `delivery::may_send`: refusals 13, 2, 3, 8, 9, 5.
-pub fn coircord_may_send(
-    sets: &[u32],
-    host: Host,
-    world: World,
-    frame: Frame,
-) -> SaidAnswer
+pub fn coircord_may_send(sets: &[u32], host: Host, world: World, frame: Frame) -> SaidAnswer
     ensures { AsksFlat sets.now host world frame result }
 {
     let answer = delivery::may_send(sets, host, world, frame);

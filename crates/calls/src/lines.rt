@@ -33,12 +33,7 @@ pub fn coircord_event_line(out: &mut [u8], event: u32, number: u8) -> LineAnswer
 }
 
 // `report::host_line`: refusals 13, 2, 3, 5.
-pub fn coircord_host_line(
-    out: &mut [u8],
-    me: u32,
-    host: Host,
-    world: World,
-) -> LineAnswer
+pub fn coircord_host_line(out: &mut [u8], me: u32, host: Host, world: World) -> LineAnswer
     ensures { WritesHostFlat out.old me host world result out.new }
 {
     let line = report::host_line(out, me, host, world);

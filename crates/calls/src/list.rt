@@ -35,12 +35,7 @@ pub struct Done {
 // Plays one event: two records of the list are read, one is written back. Refusals 13, 2, 3, 1, then
 // the event's own; bytes behind the event are not looked at. The answer is a number, of which
 // `answer_of` tells what it means.
-pub fn coircord_step(
-    hosts: &mut [Host],
-    table: &mut [u32],
-    world: World,
-    event: &[u8],
-) -> u32
+pub fn coircord_step(hosts: &mut [Host], table: &mut [u32], world: World, event: &[u8]) -> u32
     ensures { StepsList hosts.old table.old world event.now result hosts.new table.new }
 {
     if hosts.len() < 32 {

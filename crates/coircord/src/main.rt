@@ -6,12 +6,14 @@
 
 mod lines;
 
-ghost use Rattle.std.specs.Prelude.{◌≤◌};
-ghost use Rattle.io.specs.Counts.{IsPrefixLen};
+ghost use Rattle.std.specs.Prelude.{◌≤◌, ◌<◌, length, take, IfOk};
+ghost use Rattle.std.specs.Io.{ReadsAtMost};
+ghost use Rattle.std.specs.Io.KnownBytes.{Consumes, IsAtEnd};
 
 use file::Header;
-use libc::STDIN_FILENO;
 use run::{Run, Stop};
+use std::io;
+use std::io::{ErrorKind, Read, Write};
 
 // The header and the records of 32 hosts, 98 bytes, are read first. In a smaller world the bytes
 // behind its records are whole events, so that no event lies across two reads.
@@ -31,59 +33,94 @@ struct Course {
     waiting: usize,
 }
 
-fn main() {
+fn main(rt: HostRuntime) -> io::Result<()> {
     let mut table = [0u32; 14336];
     let mut bytes = [0u8; 2313];
     let mut out = [0u8; 2048];
-    vote(&mut table, &mut bytes, &mut out);
+    let mut from = rt.stdin();
+    let mut to = rt.stdout();
+    vote(&mut from, &mut to, &mut table, &mut bytes, &mut out)
 }
 
 // The whole program, over its memory.
-fn vote(table: &mut [u32], bytes: &mut [u8], out: &mut [u8]) {
-    let got = read(bytes, FIRST);
+fn vote(
+    from: &mut impl Read,
+    to: &mut impl Write,
+    table: &mut [u32],
+    bytes: &mut [u8],
+    out: &mut [u8],
+) -> io::Result<()> {
+    let got = read(from, bytes, FIRST)?;
     let started = run::start(&bytes[..got]);
     let answer = started.answer;
     if let Header::Refused(number) = answer {
-        refuse(out, number);
-        return;
+        return refuse(to, out, number);
     }
-    carry(started.run, table, bytes, got, out);
+    carry(from, to, started.run, table, bytes, got, out)
 }
 
 // A file that holds no vote: one line.
-fn refuse(out: &mut [u8], number: u8) {
-    let waiting = lines::refusal(out, 0, number);
-    lines::flush(out, waiting);
+fn refuse(to: &mut impl Write, out: &mut [u8], number: u8) -> io::Result<()> {
+    let waiting = lines::refusal(to, out, 0, number)?;
+    lines::flush(to, out, waiting)
 }
 
 // Plays the events that stand behind the records in the first `got` bytes, then all others.
-fn carry(run: Run, table: &mut [u32], bytes: &mut [u8], got: usize, out: &mut [u8])
-    requires { IsPrefixLen got bytes.old }
+fn carry(
+    from: &mut impl Read,
+    to: &mut impl Write,
+    run: Run,
+    table: &mut [u32],
+    bytes: &mut [u8],
+    got: usize,
+    out: &mut [u8],
+) -> io::Result<()>
+    requires { got ≤ length bytes.old }
 {
     let events = run::rest(&bytes[..got]);
-    let first = play(Course { run, waiting: 0 }, table, events, out);
-    let last = follow(first, table, bytes, got, out);
-    conclude(last, out);
+    let first = play(to, Course { run, waiting: 0 }, table, events, out)?;
+    let last = follow(from, to, first, table, bytes, got, out)?;
+    conclude(to, last, out)
 }
 
 // Fills the first `want` bytes of the buffer, if it has so many, or as many as the input still has.
-fn read(bytes: &mut [u8], want: usize) -> usize
-    ensures { IsPrefixLen result bytes.new }
+fn read<R: Read>(from: &mut R, bytes: &mut [u8], want: usize) -> io::Result<usize>
+    ensures prefix { ReadsAtMost result bytes.new }
+    ensures most { IfOk result (λ got. got ≤ want) }
+    ensures bytes { IfOk result (λ got. Consumes (R.remaining from.old) (R.remaining from.new) (take got bytes.new)) }
+    ensures end { want ≤ length bytes.old → IfOk result (λ got. got < want → IsAtEnd (R.remaining from.new)) }
 {
     if bytes.len() < want {
-        return 0;
+        return Ok(0);
     }
-    io::read_full(STDIN_FILENO, &mut bytes[..want])
+    let mut got = 0;
+    for _ in 0..u64::MAX {
+        if got == want {
+            return Ok(got);
+        }
+        match from.read(&mut bytes[got..want]) {
+            Ok(0) => return Ok(got),
+            Ok(more) => got += more,
+            Err(error) => {
+                if error.kind() != ErrorKind::Interrupted {
+                    return Err(error);
+                }
+            }
+        }
+    }
+    Err(io::Error::new(ErrorKind::TimedOut, "too many reads"))
 }
 
 // Refills the buffer and plays it until the input ends or the run takes no more events.
 fn follow(
+    from: &mut impl Read,
+    to: &mut impl Write,
     course: Course,
     table: &mut [u32],
     bytes: &mut [u8],
     first: usize,
     out: &mut [u8],
-) -> Course {
+) -> io::Result<Course> {
     let mut going = course;
     let mut more = first == FIRST;
     for buffer in 0..BUFFERS {
@@ -91,15 +128,21 @@ fn follow(
         if !more | (want == 0) {
             break;
         }
-        let got = read(bytes, want);
+        let got = read(from, bytes, want)?;
         more = got == want;
-        going = play(going, table, &bytes[..got], out);
+        going = play(to, going, table, &bytes[..got], out)?;
     }
-    going
+    Ok(going)
 }
 
 // Plays a buffer to its end, with a line for each refused event.
-fn play(course: Course, table: &mut [u32], events: &[u8], out: &mut [u8]) -> Course {
+fn play(
+    to: &mut impl Write,
+    course: Course,
+    table: &mut [u32],
+    events: &[u8],
+    out: &mut [u8],
+) -> io::Result<Course> {
     let mut going = course;
     let mut at = 0;
     for call in 0..events.len() {
@@ -111,21 +154,21 @@ fn play(course: Course, table: &mut [u32], events: &[u8], out: &mut [u8]) -> Cou
         let Stop::Event(number) = stop else {
             break;
         };
-        going.waiting = lines::event(out, going.waiting, run.events, number);
+        going.waiting = lines::event(to, out, going.waiting, run.events, number)?;
     }
-    going
+    Ok(going)
 }
 
 // A line for each host, then the totals.
-fn conclude(course: Course, out: &mut [u8]) {
+fn conclude(to: &mut impl Write, course: Course, out: &mut [u8]) -> io::Result<()> {
     let run = course.run;
     let mut waiting = course.waiting;
     for i in 0..least(32, run.world.n) {
         let host = run.hosts[i as usize];
-        waiting = lines::host(out, waiting, i, host, run.world);
+        waiting = lines::host(to, out, waiting, i, host, run.world)?;
     }
-    waiting = lines::totals(out, waiting, run.events, run.refused);
-    lines::flush(out, waiting);
+    waiting = lines::totals(to, out, waiting, run.events, run.refused)?;
+    lines::flush(to, out, waiting)
 }
 
 fn least(a: u32, b: u32) -> u32

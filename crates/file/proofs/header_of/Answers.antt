@@ -1,5 +1,5 @@
 -- `header_of` meets its promise: 1, what the world's check says, then 4.
-use Rattle.std.proofs.Common.{sym, ◌∙◌, div-one, nat_eq}
+use Rattle.std.proofs.Common.{sym, ◌∙◌, div-one}
 use borrow.Author.Tests.{le-ltb, eq-eqb, ne_eqb}
 use Rattle.file.proofs.Heading.{head_stops, head_goes_on}
 use Rattle.file.proofs.header_of.Goals as goal

@@ -1,5 +1,5 @@
 -- No value below the loop's has the sender.
-use Rattle.std.proofs.Common.{◌≡◌, ◌≤◌}
+use Rattle.std.proofs.Common.{◌≡◌}
 use Rattle.quorum.specs.Sets.{member}
 use Rattle.host.specs.Words.{values, AUX, senders}
 use Rattle.host.specs.declared.Place.{Place}

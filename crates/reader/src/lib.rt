@@ -42,8 +42,7 @@ pub fn onward<'a>(reader: Reader<'a>) -> Reader<'a>
     }
 }
 
-// What a reader over these bytes sees at this place. Its parameters are plain, so that a caller needs
-// no proof by hand, as every function that has a `Reader` does.
+// What a reader over these bytes sees at this place, in one call with plain parameters.
 pub fn event(bytes: &[u8], at: usize) -> Seen
     ensures { Shows bytes.now at result }
 {

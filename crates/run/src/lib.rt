@@ -96,7 +96,6 @@ pub fn rest(bytes: &[u8]) -> &[u8]
 }
 
 // The header and record check in one call: what `start` answers, and beside it what `rest` hands back.
-// A function that has an `Opened` is proved by hand; the two calls serve one that is not to be.
 pub fn open<'a>(bytes: &'a [u8]) -> Opened<'a>
     ensures { Opens bytes.now result }
 {

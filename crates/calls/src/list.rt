@@ -1,6 +1,6 @@
 // One event of a run whose host records stand in one lent list.
 ghost use Rattle.std.specs.Prelude.{ℕ, ◌<◌, ◌≡◌, List};
-ghost use Rattle.host.specs.declared.Host.{Host as Declared-as-Host};
+ghost use Rattle.host.specs.declared.Host.{Host};
 ghost use Rattle.turn.specs.Turning.{turned_says};
 ghost use Rattle.file.specs.Reading.{event_in};
 ghost use Rattle.frame.specs.Frame.{packing};
@@ -97,7 +97,7 @@ fn sender_place(event: &[u8]) -> usize
 // The event with the records of its host and of its frame's sender.
 #[tactic(auto, unfolding(quorum::specs::World::checking))]
 fn meet(host: Host, sender: Host, table: &mut [u32], world: World, event: &[u8]) -> Done
-    ensures { ◌≡◌ {A = ℕ × (Declared-as-Host × List ℕ)} (result.code, (result.host, table.new)) (done host (meeting host sender table.old world event.now)) }
+    ensures { ◌≡◌ {A = ℕ × (Host × List ℕ)} (result.code, (result.host, table.new)) (done host (meeting host sender table.old world event.now)) }
 {
     let words = table.len();
     if words < 14336 {
@@ -123,7 +123,7 @@ fn meet(host: Host, sender: Host, table: &mut [u32], world: World, event: &[u8])
 
 // The record and the number after an event that was answered so.
 fn settle(host: Host, turned: Turned) -> Done
-    ensures { ◌≡◌ {A = ℕ × Declared-as-Host} (result.code, result.host) (code (turned_says turned), record_from host (turned_says turned)) }
+    ensures { ◌≡◌ {A = ℕ × Host} (result.code, result.host) (code (turned_says turned), record_from host (turned_says turned)) }
 {
     match turned {
         Turned::Idle => Done { host, code: 65536 },

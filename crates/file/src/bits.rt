@@ -1,6 +1,6 @@
 // Bytes joined to a number, the high byte first, and the fields of such a number.
 ghost use Rattle.std.specs.Prelude.{◌≡◌};
-ghost use Rattle.file.specs.Layouts.{two as Layouts·two, three as Layouts·three, header_world, standing_of, first_host, event_of};
+ghost use Rattle.file.specs.Layouts.{two, three, header_world, standing_of, first_host, event_of};
 ghost use Rattle.file.specs.Reading.{bad_record, bad_event};
 
 use crate::Event;
@@ -9,14 +9,14 @@ use quorum::World;
 
 // Two bytes.
 pub(crate) fn two(high: u8, low: u8) -> u32
-    ensures { result ≡ Layouts·two high low }
+    ensures { result ≡ two high low }
 {
     high as u32 * 256 + low as u32
 }
 
 // Three bytes.
 pub(crate) fn three(high: u8, middle: u8, low: u8) -> u32
-    ensures { result ≡ Layouts·three high middle low }
+    ensures { result ≡ three high middle low }
 {
     high as u32 * 65536 + (middle as u32 * 256 + low as u32)
 }

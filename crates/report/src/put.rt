@@ -2,14 +2,14 @@
 // one goes.
 ghost use Rattle.std.specs.Prelude.{◌+◌, ◌<◌, ◌≤◌, [], ◌∷◌, length};
 ghost use Rattle.report.specs.Text.{decimal};
-ghost use Rattle.report.specs.Text.{digit as Text·digit};
+ghost use Rattle.report.specs.Text.{digit};
 ghost use Rattle.report.specs.Parts.{or_dash, holes, filled, Puts};
 
 // One digit.
 #[tactic(auto, unfolding(crate::specs::Parts::put))]
 fn digit(out: &mut [u8], at: usize, d: u32) -> usize
     requires { (d < 10) × (at < length out.old) }
-    ensures { Puts at out.old (Text·digit d ∷ []) result out.new }
+    ensures { Puts at out.old (digit d ∷ []) result out.new }
 {
     out[at] = 48 + d as u8;
     at + 1

@@ -5,7 +5,7 @@ ghost use Rattle.turn.specs.Turning.{turned_says};
 ghost use Rattle.run.specs.Playing.{pieces, counted, sender_in, Ending, course};
 ghost use Rattle.run.specs.Calls.{stop_says};
 ghost use Rattle.run.specs.Parts.{settled_says, record_by, played_says, ended_at, stopped_at, course_says};
-ghost use Rattle.run.specs.declared.Run.{Run as Declared-as-Run};
+ghost use Rattle.run.specs.declared.Run.{Run};
 
 use crate::{Played, Run, Stop};
 use file::{Event, Seen};
@@ -24,7 +24,7 @@ pub(crate) enum Settled {
 
 // A refused call: the run as it was, and no byte taken.
 pub(crate) fn refuse(run: Run, number: u8) -> Played
-    ensures { ◌≡◌ {A = Answer Ending × (Declared-as-Run × ℕ)} (played_says result) (refused number, (run, 0)) }
+    ensures { ◌≡◌ {A = Answer Ending × (Run × ℕ)} (played_says result) (refused number, (run, 0)) }
 {
     Played {
         run,
@@ -37,7 +37,7 @@ pub(crate) fn refuse(run: Run, number: u8) -> Played
 // stored.
 pub(crate) fn walk(run: Run, table: &mut [u32], bytes: &[u8]) -> Played
     requires { 14336 ≤ length table.old }
-    ensures { ◌≡◌ {A = Answer Ending × (Declared-as-Run × ℕ × List ℕ)} (stop_says result.stop, (result.run, result.taken, table.new)) (course_says (course run table.old (pieces bytes.now))) }
+    ensures { ◌≡◌ {A = Answer Ending × (Run × ℕ × List ℕ)} (stop_says result.stop, (result.run, result.taken, table.new)) (course_says (course run table.old (pieces bytes.now))) }
 {
     let mut going = run;
     let mut at = 0;
@@ -75,7 +75,7 @@ pub(crate) fn walk(run: Run, table: &mut [u32], bytes: &[u8]) -> Played
 
 // Nothing is left to play.
 fn end(run: Run, taken: usize) -> Played
-    ensures { ◌≡◌ {A = Answer Ending × (Declared-as-Run × ℕ)} (played_says result) (ended_at run taken) }
+    ensures { ◌≡◌ {A = Answer Ending × (Run × ℕ)} (played_says result) (ended_at run taken) }
 {
     Played {
         run,
@@ -86,7 +86,7 @@ fn end(run: Run, taken: usize) -> Played
 
 // A refused event is counted twice: among the events and among the refused.
 fn stop(run: Run, taken: usize, number: u8) -> Played
-    ensures { ◌≡◌ {A = Answer Ending × (Declared-as-Run × ℕ)} (played_says result) (stopped_at run taken number) }
+    ensures { ◌≡◌ {A = Answer Ending × (Run × ℕ)} (played_says result) (stopped_at run taken number) }
 {
     let mut stopped = run;
     stopped.events = count(run.events);

@@ -1,10 +1,10 @@
 // Reading the host records behind an accepted header.
 ghost use Rattle.std.specs.Prelude.{◌≤◌, ◌≡◌};
 ghost use Rattle.answer.specs.Answer.{Answer, refused, accepted, number_of, past};
-ghost use Rattle.quorum.specs.declared.World.{World as Declared-as-World};
+ghost use Rattle.quorum.specs.declared.World.{World};
 ghost use Rattle.file.specs.Reading.{header_says, record_says};
 ghost use Rattle.run.specs.Starting.{liar, first_run, records_guards, blank, beside_it};
-ghost use Rattle.run.specs.declared.Run.{Run as Declared-as-Run};
+ghost use Rattle.run.specs.declared.Run.{Run};
 
 use crate::{Run, Started};
 use file::{Header, Record};
@@ -13,7 +13,7 @@ use quorum::World;
 
 // A refused file, with a run of nobody beside its number.
 pub(crate) fn refuse(number: u8) -> Started
-    ensures { ◌≡◌ {A = Answer Declared-as-World × Declared-as-Run} (header_says result.answer, result.run) (refused number, blank) }
+    ensures { ◌≡◌ {A = Answer World × Run} (header_says result.answer, result.run) (refused number, blank) }
 {
     let hosts = [nobody(); 32];
     let world = quorum::world_of(0, 0);
@@ -33,7 +33,7 @@ pub(crate) fn refuse(number: u8) -> Started
 #[tactic(auto, unfolding(crate::specs::Starting::enrolled))]
 pub(crate) fn enrol(bytes: &[u8], world: World) -> Started
     requires { world.n ≤ 32 }
-    ensures { ◌≡◌ {A = Answer Declared-as-World × Declared-as-Run} (header_says result.answer, result.run) (beside_it (past (records_guards bytes.now world.n) (accepted (first_run bytes.now world)))) }
+    ensures { ◌≡◌ {A = Answer World × Run} (header_says result.answer, result.run) (beside_it (past (records_guards bytes.now world.n) (accepted (first_run bytes.now world)))) }
 {
     let mut hosts = [nobody(); 32];
     for i in 0..world.n as usize {

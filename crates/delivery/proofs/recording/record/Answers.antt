@@ -1,9 +1,14 @@
--- `record` meets its promise: a new frame's sender joins its set.
+-- `record` meets its promise: a repeat changes nothing, and a new frame's sender joins its set.
 use Rattle.std.proofs.Common.{arith}
 use Rattle.quorum.proofs.Adding.{or_shl}
 use Rattle.host.specs.Words.{senders, put}
 use Rattle.delivery.specs.Recording.{recording}
 use Rattle.delivery.proofs.recording.record.Goals as goal
+
+pub returns-then-has : goal.returns-then-has
+unfolding recording senders put
+returns-then-has c =
+    simp (← c.instance-inst.ensures, ← c.has.ensures, c.if-has.true)
 
 pub returns : goal.returns
 unfolding recording senders put

@@ -1,6 +1,6 @@
 // The output buffer: lines are put behind those that wait in it, and written out when no further
 // line may fit.
-ghost use Rattle.std.specs.Prelude.{◌≤◌, length, take, IfOk, OnOk};
+ghost use Rattle.std.specs.Prelude.{◌≡◌, ◌≤◌, length, take, IfOk, OnErr, OnOk};
 ghost use Rattle.std.specs.Io.KnownBytes.{Appends};
 
 use host::Host;
@@ -17,7 +17,9 @@ pub(crate) fn refusal(
     out: &mut [u8],
     waiting: usize,
     number: u8,
-) -> io::Result<usize> {
+) -> io::Result<usize>
+    ensures { OnErr result (out.new ≡ out.old) }
+{
     let at = room(to, out, waiting)?;
     let line = report::refusal_line(&mut out[at..], number);
     Ok(behind(at, line, out.len()))
@@ -29,7 +31,9 @@ pub(crate) fn event(
     waiting: usize,
     event: u32,
     number: u8,
-) -> io::Result<usize> {
+) -> io::Result<usize>
+    ensures { OnErr result (out.new ≡ out.old) }
+{
     let at = room(to, out, waiting)?;
     let line = report::event_line(&mut out[at..], event, number);
     Ok(behind(at, line, out.len()))
@@ -42,7 +46,9 @@ pub(crate) fn host(
     me: u32,
     host: Host,
     world: World,
-) -> io::Result<usize> {
+) -> io::Result<usize>
+    ensures { OnErr result (out.new ≡ out.old) }
+{
     let at = room(to, out, waiting)?;
     let line = report::host_line(&mut out[at..], me, host, world);
     Ok(behind(at, line, out.len()))
@@ -54,13 +60,15 @@ pub(crate) fn totals(
     waiting: usize,
     events: u32,
     refused: u32,
-) -> io::Result<usize> {
+) -> io::Result<usize>
+    ensures { OnErr result (out.new ≡ out.old) }
+{
     let at = room(to, out, waiting)?;
     let line = report::totals_line(&mut out[at..], events, refused);
     Ok(behind(at, line, out.len()))
 }
 
-// Writes what waits.
+// Writes what waits. Where a write fails, a part of it may have been written.
 pub(crate) fn flush<W: Write>(to: &mut W, out: &[u8], waiting: usize) -> io::Result<()>
     ensures { waiting ≤ length out.now → OnOk result (Appends (W.contents to.old) (W.contents to.new) (take waiting out.now)) }
 {

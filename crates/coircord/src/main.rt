@@ -6,7 +6,7 @@
 
 mod lines;
 
-ghost use Rattle.std.specs.Prelude.{◌≤◌, ◌<◌, length, take, IfOk};
+ghost use Rattle.std.specs.Prelude.{ℕ, ◌≤◌, ◌<◌, length, take, IfOk, IfErr};
 ghost use Rattle.std.specs.Io.{ReadsAtMost};
 ghost use Rattle.std.specs.Io.KnownBytes.{Consumes, IsAtEnd};
 
@@ -84,11 +84,13 @@ fn carry(
 }
 
 // Fills the first `want` bytes of the buffer, if it has so many, or as many as the input still has.
+// Where a read fails, what the input gave before it stands at the buffer's start.
 fn read<R: Read>(from: &mut R, bytes: &mut [u8], want: usize) -> io::Result<usize>
     ensures prefix { ReadsAtMost result bytes.new }
     ensures most { IfOk result (λ got. got ≤ want) }
     ensures bytes { IfOk result (λ got. Consumes (R.remaining from.old) (R.remaining from.new) (take got bytes.new)) }
     ensures end { want ≤ length bytes.old → IfOk result (λ got. got < want → IsAtEnd (R.remaining from.new)) }
+    ensures failed { IfErr result (λ error. (got : ℕ) × (got ≤ want) × Consumes (R.remaining from.old) (R.remaining from.new) (take got bytes.new)) }
 {
     if bytes.len() < want {
         return Ok(0);

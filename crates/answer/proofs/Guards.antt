@@ -53,6 +53,17 @@ stops gs hs a x e = in_parts gs hs x ∙ refuses gs a (past hs x) e
 pub goes_on : {A B : Type 0} (gs hs : List Guard) (a : A) (x : Answer B) {b : A} → guarded gs a ≡ accepted b → past (gs ++ hs) x ≡ past hs x
 goes_on gs hs a x e = in_parts gs hs x ∙ lets gs a (past hs x) e
 
+-- a call whose first part answers r, and that answers x past it: what `?` makes of the two
+abbrev pub onward : {A B : Type 0} → Answer A → Answer B → Answer B
+onward (refused k) x = refused k
+onward (accepted a) x = x
+
+-- so it is with the guards of its first part
+pub past_onward : {A B : Type 0} (gs hs : List Guard) (a : A) (x : Answer B) (r : Answer A) → guarded gs a ≡ r
+    → past (gs ++ hs) x ≡ onward r (past hs x)
+past_onward gs hs a x (refused k) e = stops gs hs a x e
+past_onward gs hs a x (accepted b) e = goes_on gs hs a x e
+
 -- a refused call leaves what it was lent
 pub leaves : {A M : Type 0} (before after : M) (a : Answer (A × M)) {k : ℕ} → lent before a ≡ (refused k, after) → after ≡ before
 leaves before after (refused j) e = sym (ap (λ x. x.1) e)

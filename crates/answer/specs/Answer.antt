@@ -1,6 +1,7 @@
 -- What a call answers. Document 01, "Refusal numbers": a number is "given exactly when" its condition holds, the conditions of a call
 -- are asked in the order stated there, and "a refused call returns its number only".
-use Rattle.std.specs.Prelude.{ℕ, Bool, cond, List, [], ◌∷◌}
+use Rattle.std.specs.Prelude.{ℕ, ◌≡◌, Bool, cond, List, [], ◌∷◌, ◌++◌, Result, Ok, Err, codes, decimal}
+use Rattle.answer.specs.declared.Refusal.{Refusal}
 
 pub data Answer (A : Type 0) : Type 0 where
   refused : ℕ → Answer A
@@ -40,3 +41,34 @@ lent before (accepted (a, after)) = (accepted a, after)
 abbrev pub going_on : {A M : Type 0} → M → Answer Unit → Answer A × M → Answer A × M
 going_on before (refused k) r = (refused k, before)
 going_on before (accepted u) r = r
+
+-- ---- What code returns
+
+-- document 01's number of a refusal
+abbrev pub number : Refusal → ℕ
+number Refusal.Incomplete = 1
+number Refusal.Hosts = 2
+number Refusal.Liars = 3
+number Refusal.NotZero = 4
+number Refusal.Unnamed = 5
+number Refusal.Liar = 6
+number Refusal.Version = 7
+number Refusal.Round = 8
+number Refusal.Value = 9
+number Refusal.Broken = 10
+number Refusal.Unsent = 11
+number Refusal.OtherAux = 12
+number Refusal.Lent = 13
+
+-- the answer that a result is
+abbrev pub says : {A : Type 0} → Result A Refusal → Answer A
+says (Ok a) = accepted a
+says (Err r) = refused (number r)
+
+-- how a refusal is printed: "refused C"
+abbrev pub line_of : Refusal → List ℕ
+line_of refusal = codes "refused " ++ decimal (number refusal)
+
+-- the promise of a refusal's conversion to its number
+abbrev pub NumberOf : Refusal → ℕ → Type 0
+NumberOf refusal n = n ≡ number refusal

@@ -1,5 +1,1 @@
-pub mod Told
-pub mod Seeing
-pub mod Opening
-pub mod Meeting
 pub mod Listing

@@ -1,10 +1,10 @@
 -- One event on a list: what it makes of the one record and of the table is what it makes of a run of these records. Assumes nothing.
-use Prim.Native.Nat.{ℕ, ◌≤◌, ◌<◌}
+use Prim.Native.Nat.{ℕ, ◌≤◌}
 use mathlib.Core.Path.{◌≡◌, refl, sym, ap, ◌∙◌}
 use mathlib.Core.List.{List}
 use lib.ListN.{length, get_or, set}
 use lib.Seq.{set-get_or}
-use borrow.Author.Tests.{lt-ltb, le-ltb}
+use borrow.Author.Tests.{le-ltb}
 use Rattle.answer.specs.Answer.{Answer, refused, accepted, guarded, going_on}
 use Rattle.answer.proofs.Guards.{clear}
 use Rattle.quorum.specs.declared.World.{World}
@@ -14,9 +14,9 @@ use Rattle.file.specs.Reading.{piece_guards, event_in}
 use Rattle.file.specs.declared.Event.{Event}
 use Rattle.turn.specs.Applying.{Turn}
 use Rattle.run.specs.Starting.{fresh_run}
-use Rattle.run.specs.Playing.{host_in, no_host, happens}
-use Rattle.calls.specs.List.{listed, listing, coded, StepsList}
-use Rattle.calls.specs.Parts.{host_place, sender_place, between, table_guards, meeting, record_from, done}
+use Rattle.run.specs.Playing.{host_in, no_host, happens, record_after}
+use Rattle.calls.specs.List.{code, listed, listing, coded, StepsList}
+use Rattle.calls.specs.Parts.{host_place, sender_place, between, table_guards, meeting}
 
 abbrev at : List Host → ℕ → Host
 at hosts i = get_or hosts i no_host
@@ -25,6 +25,11 @@ at hosts i = get_or hosts i no_host
 host_in_lem : (event : List ℕ) {e : Event} → event_in event 0 ≡ accepted e → host_in event ≡ e.host
 unfolding event_in
 host_in_lem event is = sym (ap (λ (e : Event). e.host) (clear (piece_guards event 0) (event_of (three_at event 0)) is).1)
+
+-- the host's record after an event that was answered so
+abbrev pub record_from : Host → Answer Turn → Host
+record_from h (refused k) = h
+record_from h (accepted turn) = record_after h turn
 
 -- what the record makes of an event, put into the list
 abbrev put : List Host → ℕ → Answer Turn × List ℕ → Answer Turn × (List Host × List ℕ)
@@ -57,14 +62,17 @@ module _ (hosts : List Host) (table : List ℕ) (w : World) (event : List ℕ) w
   by_guards (accepted u) = by_event (event_in event 0) refl
 
   -- a list that is long enough: the record stands in it, and the answer is its number
-  pub in_list : (p q number : ℕ) (next : Host) (after : List ℕ) → 32 ≤ length hosts → p ≡ host_place (event_in event 0) → q ≡ sender_place (event_in event 0)
-      → ◌≡◌ {A = ℕ × (Host × List ℕ)} (number, (next, after)) (done (at hosts p) (meeting (at hosts p) (at hosts q) table w event))
-      → StepsList hosts table w event number (set hosts p next) after
+  pub in_list : (p q : ℕ) (answer : Answer Turn) (after : List ℕ) → 32 ≤ length hosts → p ≡ host_place (event_in event 0)
+      → q ≡ sender_place (event_in event 0) → ◌≡◌ {A = Answer Turn × List ℕ} (answer, after) (meeting (at hosts p) (at hosts q) table w event)
+      → StepsList hosts table w event (code answer) (set hosts p (record_from (at hosts p) answer)) after
   unfolding listing
-  in_list p q number next after long ip iq is =
-      ap (λ (d : ℕ × (Host × List ℕ)). (d.0, (set hosts p d.1.0, d.1.1))) is
+  in_list p q answer after long ip iq is =
+      ap (λ (d : Answer Turn × List ℕ). coded (put hosts p d)) is
       ∙ rw (ip, iq, le-ltb (length hosts) 32 long) (ap coded (sym (by_guards (guarded (table_guards table w) tt))))
 
-  pub short_list : length hosts < 32 → StepsList hosts table w event 13 hosts table
-  unfolding listing
-  short_list short = rw (lt-ltb (length hosts) 32 short)
+  -- where the record is as it was, so is the list
+  pub in_list_same : (p q : ℕ) (answer : Answer Turn) (after : List ℕ) → record_from (at hosts p) answer ≡ at hosts p → 32 ≤ length hosts
+      → p ≡ host_place (event_in event 0) → q ≡ sender_place (event_in event 0)
+      → ◌≡◌ {A = Answer Turn × List ℕ} (answer, after) (meeting (at hosts p) (at hosts q) table w event)
+      → StepsList hosts table w event (code answer) hosts after
+  in_list_same p q answer after same long ip iq is = rw (same, set-get_or hosts p no_host) at (in_list p q answer after long ip iq is)

@@ -1,11 +1,16 @@
 -- The calls on the printed lines for other languages.
-use Rattle.std.specs.Prelude.{ℕ, ◌≡◌, List}
-use Rattle.answer.specs.Answer.{Answer}
+use Rattle.std.specs.Prelude.{ℕ, ◌≡◌, List, Result}
+use Rattle.answer.specs.Answer.{Answer, says}
+use Rattle.answer.specs.declared.Refusal.{Refusal}
 use Rattle.quorum.specs.declared.World.{World}
 use Rattle.host.specs.declared.Host.{Host}
 use Rattle.report.specs.Lines.{writing, room_guards, host_guards, refusal_line, event_line, host_line, totals_line}
-use Rattle.calls.specs.Flat.{flat_lent}
+use Rattle.calls.specs.Flat.{flat, flat_lent}
 use Rattle.calls.specs.declared.lines.LineAnswer.{LineAnswer}
+
+-- the promise of a line's conversion for C
+abbrev pub LineOf : Result ℕ Refusal → LineAnswer → Type 0
+LineOf line answer = ◌≡◌ {A = ℕ × ℕ} (answer.refused, answer.length) (flat 0 (says line))
 
 -- a line's length or its refusal, and the bytes, are what a call of `report` answers and leaves
 abbrev pub Written : Answer ℕ × List ℕ → LineAnswer → List ℕ → Type 0

@@ -8,8 +8,7 @@ use Rattle.file.specs.Reading.{event_in}
 use Rattle.file.specs.declared.Event.{Event}
 use Rattle.table.specs.Stepping.{stepping}
 use Rattle.turn.specs.Applying.{Turn}
-use Rattle.run.specs.Playing.{sender_in, record_after}
-use Rattle.calls.specs.List.{code}
+use Rattle.run.specs.Playing.{sender_in}
 
 -- the place of the event's host, and that of the frame's sender; a piece of an event names nobody, and the first place stands for it
 abbrev pub host_place : Answer Event → ℕ
@@ -30,12 +29,3 @@ table_guards table w = (13 when ltb (length table) 14336) ∷ world_guards w
 
 abbrev pub meeting : Host → Host → List ℕ → World → List ℕ → Answer Turn × List ℕ
 meeting h sender table w event = going_on table (guarded (table_guards table w) tt) (between h sender table w (event_in event 0))
-
--- the host's record after an event that was answered so
-abbrev pub record_from : Host → Answer Turn → Host
-record_from h (refused k) = h
-record_from h (accepted turn) = record_after h turn
-
--- the answer's number, the record and the table
-abbrev pub done : Host → Answer Turn × List ℕ → ℕ × (Host × List ℕ)
-done h (answer, after) = (code answer, (record_from h answer, after))

@@ -1,18 +1,19 @@
 // Frames.
-ghost use Rattle.calls.specs.Frames.{UnpacksFlat, PacksFlat, no_frame};
-ghost use Rattle.std.specs.Prelude.{◌≡◌};
+ghost use Rattle.calls.specs.Frames.{UnpacksFlat, PacksFlat};
 
-use frame::{Frame, Packed, Unpacked};
+use crate::flat::flatten;
+use frame::Frame;
 
+// Kept: a number with the value beside it, for C; so in the next one.
 #[repr(C)]
-#[derive(Clone, Copy, Drop)]
+#[derive(Clone, Copy, Debug, PartialEq, Eq, Drop)]
 pub struct FrameAnswer {
     pub refused: u8,
     pub frame: Frame,
 }
 
 #[repr(C)]
-#[derive(Clone, Copy, Drop)]
+#[derive(Clone, Copy, Debug, PartialEq, Eq, Drop)]
 pub struct WordAnswer {
     pub refused: u8,
     pub word: u16,
@@ -22,40 +23,14 @@ pub struct WordAnswer {
 pub fn coircord_unpack(word: u16) -> FrameAnswer
     ensures { UnpacksFlat word result }
 {
-    let unpacked = frame::unpack(word);
-    match unpacked {
-        Unpacked::Frame(frame) => FrameAnswer { refused: 0, frame },
-        Unpacked::Refused(number) => FrameAnswer {
-            refused: number,
-            frame: no_frame(),
-        },
-    }
+    let (refused, frame) = flatten(frame::unpack(word), Frame::default());
+    FrameAnswer { refused, frame }
 }
 
 // `frame::pack`: refusals 8, 9, 5.
 pub fn coircord_pack(frame: Frame) -> WordAnswer
     ensures { PacksFlat frame result }
 {
-    let packed = frame::pack(frame);
-    match packed {
-        Packed::Word(word) => WordAnswer { refused: 0, word },
-        Packed::Refused(number) => WordAnswer {
-            refused: number,
-            word: 0,
-        },
-    }
-}
-
-// The frame beside a refusal.
-pub(crate) fn no_frame() -> Frame
-    ensures { result ≡ no_frame }
-{
-    Frame {
-        kind: 0,
-        round: 0,
-        phase: 0,
-        stage: 0,
-        value: 0,
-        sender: 0,
-    }
+    let (refused, word) = flatten(frame::pack(frame), 0);
+    WordAnswer { refused, word }
 }

@@ -1,18 +1,15 @@
 // One host.
-ghost use Rattle.std.specs.Prelude.{◌≡◌, ℕ};
-ghost use Rattle.delivery.specs.Delivery.{delivered_says};
-ghost use Rattle.calls.specs.Flat.{flat};
 ghost use Rattle.calls.specs.Hosts.{DeliversFlat, DeliversWordFlat, AsksFlat, TurnsFlat};
 
-use crate::frames;
-use delivery::{Delivered, Said};
+use crate::flat::flatten;
 use frame::Frame;
 use host::Host;
 use quorum::World;
 use turn::Turned;
 
+// Kept: a number with the value beside it, for C.
 #[repr(C)]
-#[derive(Clone, Copy, Drop)]
+#[derive(Clone, Copy, Debug, PartialEq, Eq, Drop)]
 pub struct SaidAnswer {
     pub refused: u8,
     pub said: bool,
@@ -20,8 +17,9 @@ pub struct SaidAnswer {
 
 // `moved` is 0 for an idle turn, 1 for a move that broadcasts nothing and 2 for one that broadcasts
 // `frame`. `host` is the record after the turn.
+// Kept: numbers for the refusal and the move, with what they go with beside them, for C.
 #[repr(C)]
-#[derive(Clone, Copy, Drop)]
+#[derive(Clone, Copy, Debug, PartialEq, Eq, Drop)]
 pub struct TurnAnswer {
     pub refused: u8,
     pub moved: u8,
@@ -30,11 +28,11 @@ pub struct TurnAnswer {
 }
 
 // `delivery::deliver`: refusals 13, 2, 3, 6, 8, 9, 5, 10, 11, 12.
+// Kept: here and in the next call a number as the answer, for C.
 pub fn coircord_deliver(sets: &mut [u32], host: Host, world: World, frame: Frame, said: bool) -> u8
     ensures { DeliversFlat sets.old host world frame said result sets.new }
 {
-    let delivered = delivery::deliver(sets, host, world, frame, said);
-    number(delivered)
+    flatten(delivery::deliver(sets, host, world, frame, said), ()).0
 }
 
 // `delivery::deliver_word`: refusals 13, 2, 3, 6, 7, 8, 9, 5, 10, 11, 12.
@@ -47,22 +45,15 @@ pub fn coircord_deliver_word(
 ) -> u8
     ensures { DeliversWordFlat sets.old host world word said result sets.new }
 {
-    let delivered = delivery::deliver_word(sets, host, world, word, said);
-    number(delivered)
+    flatten(delivery::deliver_word(sets, host, world, word, said), ()).0
 }
 
 // `delivery::may_send`: refusals 13, 2, 3, 8, 9, 5.
 pub fn coircord_may_send(sets: &[u32], host: Host, world: World, frame: Frame) -> SaidAnswer
     ensures { AsksFlat sets.now host world frame result }
 {
-    let answer = delivery::may_send(sets, host, world, frame);
-    match answer {
-        Said::Known(said) => SaidAnswer { refused: 0, said },
-        Said::Refused(number) => SaidAnswer {
-            refused: number,
-            said: false,
-        },
-    }
+    let (refused, said) = flatten(delivery::may_send(sets, host, world, frame), false);
+    SaidAnswer { refused, said }
 }
 
 // `turn::turn`: refusals 13, 2, 3, 5, 6, 10, and 13 where the move would broadcast with the sent
@@ -70,34 +61,28 @@ pub fn coircord_may_send(sets: &[u32], host: Host, world: World, frame: Frame) -
 pub fn coircord_turn(sets: &mut [u32], host: Host, world: World, me: u32) -> TurnAnswer
     ensures { TurnsFlat sets.old host world me result sets.new }
 {
-    let blank = frames::no_frame();
-    let turned = turn::turn(sets, host, world, me);
-    match turned {
-        Turned::Idle => answer(0, 0, host, blank),
-        Turned::Quiet(next) => answer(0, 1, next, blank),
-        Turned::Broadcast(next, frame) => answer(0, 2, next, frame),
-        Turned::Refused(number) => answer(number, 0, host, blank),
-    }
-}
-
-// A turn's answer of these parts.
-fn answer(refused: u8, moved: u8, host: Host, frame: Frame) -> TurnAnswer
-    ensures { result ≡ record { refused = refused; moved = moved; host = host; frame = frame } }
-{
-    TurnAnswer {
-        refused,
-        moved,
+    let idle = TurnAnswer {
+        refused: 0,
+        moved: 0,
         host,
-        frame,
-    }
-}
-
-// The number of a refusal, 0 where there is none.
-fn number(delivered: Delivered) -> u8
-    ensures { ◌≡◌ {A = ℕ × Unit} (result, tt) (flat tt (delivered_says delivered)) }
-{
-    match delivered {
-        Delivered::Accepted => 0,
-        Delivered::Refused(number) => number,
+        frame: Frame::default(),
+    };
+    match turn::turn(sets, host, world, me) {
+        Ok(Turned::Idle) => idle,
+        Ok(Turned::Quiet(next)) => TurnAnswer {
+            moved: 1,
+            host: next,
+            ..idle
+        },
+        Ok(Turned::Broadcast(next, frame)) => TurnAnswer {
+            moved: 2,
+            host: next,
+            frame,
+            ..idle
+        },
+        Err(refusal) => TurnAnswer {
+            refused: u8::from(refusal),
+            ..idle
+        },
     }
 }

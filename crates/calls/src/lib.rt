@@ -5,6 +5,7 @@
 // same name in the library's other crates does, and its promise is over the same definition.
 #![tactic(auto)]
 
+mod flat;
 pub mod frames;
 pub mod hosts;
 pub mod lines;

@@ -1,22 +1,26 @@
 // One event of a run whose host records stand in one lent list.
 ghost use Rattle.std.specs.Prelude.{ℕ, ◌<◌, ◌≡◌, List};
-ghost use Rattle.host.specs.declared.Host.{Host};
+ghost use Rattle.answer.specs.Answer.{Answer, says};
+ghost use Rattle.frame.specs.Frame.{packing};
+ghost use Rattle.turn.specs.Applying.{Turn};
 ghost use Rattle.turn.specs.Turning.{turned_says};
 ghost use Rattle.file.specs.Reading.{event_in};
-ghost use Rattle.frame.specs.Frame.{packing};
 ghost use Rattle.calls.specs.Flat.{given_or};
-ghost use Rattle.calls.specs.List.{code, StepsList, Answers};
-ghost use Rattle.calls.specs.Parts.{host_place, sender_place, meeting, record_from, done};
+ghost use Rattle.calls.specs.List.{StepsList, Answers};
+ghost use Rattle.calls.specs.Parts.{host_place, sender_place, meeting};
 
-use file::{Event, Seen};
-use frame::{Frame, Packed};
+use answer::Refusal;
+use file::Event;
+use frame::Frame;
 use host::Host;
-use quorum::{Checked, World};
+use quorum::World;
 use turn::Turned;
 
 // What a step answered, without the record, which stands in the list. Unknown is for a number that
 // no step answers.
-#[derive(Clone, Copy, Drop)]
+// Kept: a refusal by its number, since `answer_of` tells what every number below 256 means, and not
+// thirteen of them alone.
+#[derive(Clone, Copy, Debug, PartialEq, Eq, Drop)]
 pub enum Stepped {
     Idle,
     Quiet,
@@ -25,28 +29,30 @@ pub enum Stepped {
     Unknown,
 }
 
-// What an event makes of its host's record, and the answer's number.
-#[derive(Clone, Copy, Drop)]
-pub struct Done {
-    pub host: Host,
-    pub code: u32,
-}
-
 // Plays one event: two records of the list are read, one is written back. Refusals 13, 2, 3, 1, then
 // the event's own; bytes behind the event are not looked at. The answer is a number, of which
 // `answer_of` tells what it means.
+// Kept: a number as the answer, for C.
+#[tactic(auto, unfolding(crate::specs::List::listing))]
 pub fn coircord_step(hosts: &mut [Host], table: &mut [u32], world: World, event: &[u8]) -> u32
     ensures { StepsList hosts.old table.old world event.now result hosts.new table.new }
 {
     if hosts.len() < 32 {
-        return 13;
+        return u32::from(u8::from(Refusal::Lent));
     }
-    let at = host_place(event);
-    let from = sender_place(event);
-    let sender = hosts[from];
-    let after = meet(hosts[at], sender, table, world, event);
-    hosts[at] = after.host;
-    after.code
+    let (at, from) = places(event);
+    match meet(hosts[at], hosts[from], table, world, event) {
+        Ok(Turned::Idle) => 65536,
+        Ok(Turned::Quiet(next)) => {
+            hosts[at] = next;
+            131072
+        }
+        Ok(Turned::Broadcast(next, frame)) => {
+            hosts[at] = next;
+            196608 + word_of(frame)
+        }
+        Err(refusal) => u32::from(u8::from(refusal)),
+    }
 }
 
 // What the number of a step's answer says.
@@ -69,86 +75,49 @@ pub fn answer_of(number: u32) -> Stepped
     Stepped::Unknown
 }
 
-// The place of the event's host in the list.
-fn host_place(event: &[u8]) -> usize
-    ensures { (result ≡ host_place (event_in event.now 0)) × (result < 32) }
+// The event at the start of the bytes: refusal 1.
+#[tactic(auto, unfolding(file::specs::Reading::event_at, file::specs::Reading::event_in))]
+fn first_event(bytes: &[u8]) -> Result<Event, Refusal>
+    ensures { says result ≡ event_in bytes.now 0 }
 {
-    let seen = file::event_at(event, 0);
-    match seen {
-        Seen::Event(it) => it.host as usize,
-        Seen::Refused(_) => 0,
-        Seen::Nothing => 0,
-    }
+    file::event_at(bytes, 0).unwrap_or(Err(Refusal::Incomplete))
 }
 
-// The place of the frame's sender.
-#[tactic(auto, unfolding(frame::specs::Frame::frame_of))]
-fn sender_place(event: &[u8]) -> usize
-    ensures { (result ≡ sender_place (event_in event.now 0)) × (result < 32) }
+// The places of the event's host and of the frame's sender in the list.
+#[tactic(auto, unfolding(frame::specs::Frame::frame_of, file::specs::Reading::event_in))]
+fn places(event: &[u8]) -> (usize, usize)
+    ensures host { (result.0 ≡ host_place (event_in event.now 0)) × (result.0 < 32) }
+    ensures sender { (result.1 ≡ sender_place (event_in event.now 0)) × (result.1 < 32) }
 {
-    let seen = file::event_at(event, 0);
-    match seen {
-        Seen::Event(it) => (it.word % 32) as usize,
-        Seen::Refused(_) => 0,
-        Seen::Nothing => 0,
-    }
+    first_event(event).map_or(
+        (0, 0),
+        |seen| (seen.host as usize, (seen.word % 32) as usize),
+    )
 }
 
 // The event with the records of its host and of its frame's sender.
 #[tactic(auto, unfolding(quorum::specs::World::checking))]
-fn meet(host: Host, sender: Host, table: &mut [u32], world: World, event: &[u8]) -> Done
-    ensures { ◌≡◌ {A = ℕ × (Host × List ℕ)} (result.code, (result.host, table.new)) (done host (meeting host sender table.old world event.now)) }
+fn meet(
+    host: Host,
+    sender: Host,
+    table: &mut [u32],
+    world: World,
+    event: &[u8],
+) -> Result<Turned, Refusal>
+    ensures { ◌≡◌ {A = Answer Turn × List ℕ} (turned_says result, table.new) (meeting host sender table.old world event.now) }
 {
-    let words = table.len();
-    if words < 14336 {
-        return Done { host, code: 13 };
+    if table.len() < 14336 {
+        return Err(Refusal::Lent);
     }
-    let checked = quorum::check(world);
-    if let Checked::Refused(number) = checked {
-        return Done {
-            host,
-            code: number as u32,
-        };
-    }
-    let seen = file::event_at(event, 0);
-    match seen {
-        Seen::Event(it) => settle(host, table::step(table, host, sender, world, it)),
-        Seen::Refused(number) => Done {
-            host,
-            code: number as u32,
-        },
-        Seen::Nothing => Done { host, code: 1 },
-    }
-}
-
-// The record and the number after an event that was answered so.
-fn settle(host: Host, turned: Turned) -> Done
-    ensures { ◌≡◌ {A = ℕ × Host} (result.code, result.host) (code (turned_says turned), record_from host (turned_says turned)) }
-{
-    match turned {
-        Turned::Idle => Done { host, code: 65536 },
-        Turned::Quiet(next) => Done {
-            host: next,
-            code: 131072,
-        },
-        Turned::Broadcast(next, frame) => Done {
-            host: next,
-            code: 196608 + word_of(frame) as u32,
-        },
-        Turned::Refused(number) => Done {
-            host,
-            code: number as u32,
-        },
-    }
+    quorum::check(world)?;
+    let event = first_event(event)?;
+    table::step(table, host, sender, world, event)
 }
 
 // The word of a frame, which a turn's frame always has.
-fn word_of(frame: Frame) -> u16
-    ensures { result ≡ given_or 0 (packing frame) }
+// Kept: a function of its own, since it says that the word fits beside what stands above it.
+fn word_of(frame: Frame) -> u32
+    ensures { (result ≡ given_or 0 (packing frame)) × (result < 65536) }
 {
-    let packed = frame::pack(frame);
-    match packed {
-        Packed::Word(word) => word,
-        Packed::Refused(_) => 0,
-    }
+    u32::from(frame::pack(frame).unwrap_or(0))
 }

@@ -1,13 +1,12 @@
 // A whole run, by value.
-ghost use Rattle.std.specs.Prelude.{◌≡◌};
 ghost use Rattle.calls.specs.Runs.{StartsFlat, PlaysFlat};
 
-use file::Header;
-use run::{Run, Stop};
+use run::Run;
 
 // `first` is where the first event stands in the bytes.
+// Kept: a number with the run beside it, for C; so in the next one.
 #[repr(C)]
-#[derive(Clone, Copy, Drop)]
+#[derive(Clone, Copy, Debug, PartialEq, Eq, Drop)]
 pub struct StartAnswer {
     pub refused: u8,
     pub run: Run,
@@ -17,7 +16,7 @@ pub struct StartAnswer {
 // `event` is the number by which the last event that was taken was refused, 0 where nothing is left
 // to play. `refused` is of the call itself.
 #[repr(C)]
-#[derive(Clone, Copy, Drop)]
+#[derive(Clone, Copy, Debug, PartialEq, Eq, Drop)]
 pub struct PlayAnswer {
     pub refused: u8,
     pub event: u8,
@@ -29,18 +28,15 @@ pub struct PlayAnswer {
 pub fn coircord_start(bytes: &[u8]) -> StartAnswer
     ensures { StartsFlat bytes.now result }
 {
-    let started = run::start(bytes);
-    let answer = started.answer;
-    let run = started.run;
-    match answer {
-        Header::World(world) => StartAnswer {
+    match run::start(bytes) {
+        Ok(run) => StartAnswer {
             refused: 0,
             run,
-            first: 2 + 3 * world.n as usize,
+            first: 2 + 3 * run.world.n as usize,
         },
-        Header::Refused(number) => StartAnswer {
-            refused: number,
-            run,
+        Err(refusal) => StartAnswer {
+            refused: u8::from(refusal),
+            run: Run::default(),
             first: 0,
         },
     }
@@ -50,24 +46,18 @@ pub fn coircord_start(bytes: &[u8]) -> StartAnswer
 pub fn coircord_play(run: Run, table: &mut [u32], bytes: &[u8]) -> PlayAnswer
     ensures { PlaysFlat run table.old bytes.now result table.new }
 {
-    let played = run::play(run, table, bytes);
-    let stop = played.stop;
-    let after = played.run;
-    match stop {
-        Stop::End => answer(0, 0, after, played.taken),
-        Stop::Event(number) => answer(0, number, after, played.taken),
-        Stop::Refused(number) => answer(number, 0, after, played.taken),
-    }
-}
-
-// An answer of these parts.
-fn answer(refused: u8, event: u8, run: Run, taken: usize) -> PlayAnswer
-    ensures { result ≡ record { refused = refused; event = event; run = run; taken = taken } }
-{
-    PlayAnswer {
-        refused,
-        event,
-        run,
-        taken,
+    match run::play(run, table, bytes) {
+        Ok(played) => PlayAnswer {
+            refused: 0,
+            event: played.stop.map_or(0, u8::from),
+            run: played.run,
+            taken: played.taken,
+        },
+        Err(refusal) => PlayAnswer {
+            refused: u8::from(refusal),
+            event: 0,
+            run,
+            taken: 0,
+        },
     }
 }

@@ -1,6 +1,8 @@
 // The exports for programs in other languages: the archive of this crate has each call of `calls`
 // under its name. Each calls the function of that name and promises what it promises; an answer is
 // a struct of numbers, and what it means stands beside it in `calls`.
+// Kept: each call here and in `calls`, since C calls these by their names, and a library can't export;
+// and numbers for refusals and as answers, here as there.
 #![tactic(auto)]
 
 ghost use Rattle.calls.specs.Frames.{UnpacksFlat, PacksFlat};

@@ -4,185 +4,90 @@
 // No more of a file is held than a buffer of whole events, which is refilled.
 #![tactic(auto)]
 
-mod lines;
+mod input;
+mod output;
 
-ghost use Rattle.std.specs.Prelude.{ℕ, ◌≤◌, ◌<◌, length, take, IfOk, IfErr};
-ghost use Rattle.std.specs.Io.{ReadsAtMost};
-ghost use Rattle.std.specs.Io.KnownBytes.{Consumes, IsAtEnd};
-
-use file::Header;
-use run::{Run, Stop};
+use input::Input;
+use output::Output;
+use run::Run;
 use std::io;
-use std::io::{ErrorKind, Read, Write};
+use std::io::{Read, Write};
 
 // The header and the records of 32 hosts, 98 bytes, are read first. In a smaller world the bytes
 // behind its records are whole events, so that no event lies across two reads.
 const FIRST: usize = 98;
 
-// A buffer holds 771 events, and a run takes 4,294,967,295, which are 5,570,645 such buffers.
-const HELD: u32 = 771;
-
-const MOST: u32 = 4294967295;
-
-const BUFFERS: u32 = 5570645;
-
-// A run so far, and how many bytes wait in the output buffer.
-#[derive(Clone, Copy, Drop)]
-struct Course {
-    run: Run,
-    waiting: usize,
-}
+// So many events fill the input's buffer.
+const EVENTS: u32 = 771;
 
 fn main(rt: HostRuntime) -> io::Result<()> {
-    let mut table = [0u32; 14336];
-    let mut bytes = [0u8; 2313];
-    let mut out = [0u8; 2048];
-    let mut from = rt.stdin();
-    let mut to = rt.stdout();
-    vote(&mut from, &mut to, &mut table, &mut bytes, &mut out)
+    let mut input = Input::new(rt.stdin());
+    let mut output = Output::new(rt.stdout());
+    let mut table = [0; 14336];
+    vote(&mut table, &mut input, &mut output)
 }
 
-// The whole program, over its memory.
+// The whole program, over its memory. A file that holds no vote gives one line.
 fn vote(
-    from: &mut impl Read,
-    to: &mut impl Write,
     table: &mut [u32],
-    bytes: &mut [u8],
-    out: &mut [u8],
+    input: &mut Input<impl Read>,
+    output: &mut Output<impl Write>,
 ) -> io::Result<()> {
-    let got = read(from, bytes, FIRST)?;
-    let started = run::start(&bytes[..got]);
-    let answer = started.answer;
-    if let Header::Refused(number) = answer {
-        return refuse(to, out, number);
-    }
-    carry(from, to, started.run, table, bytes, got, out)
-}
-
-// A file that holds no vote: one line.
-fn refuse(to: &mut impl Write, out: &mut [u8], number: u8) -> io::Result<()> {
-    let waiting = lines::refusal(to, out, 0, number)?;
-    lines::flush(to, out, waiting)
-}
-
-// Plays the events that stand behind the records in the first `got` bytes, then all others.
-fn carry(
-    from: &mut impl Read,
-    to: &mut impl Write,
-    run: Run,
-    table: &mut [u32],
-    bytes: &mut [u8],
-    got: usize,
-    out: &mut [u8],
-) -> io::Result<()>
-    requires { got ≤ length bytes.old }
-{
-    let events = run::rest(&bytes[..got]);
-    let first = play(to, Course { run, waiting: 0 }, table, events, out)?;
-    let last = follow(from, to, first, table, bytes, got, out)?;
-    conclude(to, last, out)
-}
-
-// Fills the first `want` bytes of the buffer, if it has so many, or as many as the input still has.
-// Where a read fails, what the input gave before it stands at the buffer's start.
-fn read<R: Read>(from: &mut R, bytes: &mut [u8], want: usize) -> io::Result<usize>
-    ensures prefix { ReadsAtMost result bytes.new }
-    ensures most { IfOk result (λ got. got ≤ want) }
-    ensures bytes { IfOk result (λ got. Consumes (R.remaining from.old) (R.remaining from.new) (take got bytes.new)) }
-    ensures end { want ≤ length bytes.old → IfOk result (λ got. got < want → IsAtEnd (R.remaining from.new)) }
-    ensures failed { IfErr result (λ error. (got : ℕ) × (got ≤ want) × Consumes (R.remaining from.old) (R.remaining from.new) (take got bytes.new)) }
-{
-    if bytes.len() < want {
-        return Ok(0);
-    }
-    let mut got = 0;
-    for _ in 0..u64::MAX {
-        if got == want {
-            return Ok(got);
-        }
-        match from.read(&mut bytes[got..want]) {
-            Ok(0) => return Ok(got),
-            Ok(more) => got += more,
-            Err(error) => {
-                if error.kind() != ErrorKind::Interrupted {
-                    return Err(error);
-                }
+    let more = input.read(FIRST)?;
+    match run::start(input.bytes()) {
+        Err(refusal) => output.put(|bytes| report::refusal_line(bytes, u8::from(refusal)))?,
+        Ok(run) => {
+            let mut run = play(run, table, run::rest(input.bytes()), output)?;
+            if more {
+                run = follow(run, table, input, output)?;
             }
+            conclude(run, output)?;
         }
     }
-    Err(io::Error::new(ErrorKind::TimedOut, "too many reads"))
+    output.flush()
 }
 
-// Refills the buffer and plays it until the input ends or the run takes no more events.
+// Plays what the input still has, until it ends or the run takes no more events.
 fn follow(
-    from: &mut impl Read,
-    to: &mut impl Write,
-    course: Course,
+    mut run: Run,
     table: &mut [u32],
-    bytes: &mut [u8],
-    first: usize,
-    out: &mut [u8],
-) -> io::Result<Course> {
-    let mut going = course;
-    let mut more = first == FIRST;
-    for buffer in 0..BUFFERS {
-        let want = 3 * least(HELD, MOST - going.run.events) as usize;
-        if !more | (want == 0) {
-            break;
-        }
-        let got = read(from, bytes, want)?;
-        more = got == want;
-        going = play(to, going, table, &bytes[..got], out)?;
+    input: &mut Input<impl Read>,
+    output: &mut Output<impl Write>,
+) -> io::Result<Run> {
+    let mut more = true;
+    let mut left = u32::MAX - run.events;
+    while more && left > 0 {
+        let events = left.min(EVENTS);
+        more = input.read(3 * events as usize)?;
+        run = play(run, table, input.bytes(), output)?;
+        left -= events;
     }
-    Ok(going)
+    Ok(run)
 }
 
-// Plays a buffer to its end, with a line for each refused event.
+// Plays events to their end, with a line for each refused one. A call itself is never refused: the
+// table is whole, and the run was started.
 fn play(
-    to: &mut impl Write,
-    course: Course,
+    mut run: Run,
     table: &mut [u32],
-    events: &[u8],
-    out: &mut [u8],
-) -> io::Result<Course> {
-    let mut going = course;
-    let mut at = 0;
-    for call in 0..events.len() {
-        let played = run::play(going.run, table, &events[at..]);
-        let run = played.run;
-        let stop = played.stop;
-        going.run = run;
-        at = forward(at, played.taken, events.len());
-        let Stop::Event(number) = stop else {
+    mut events: &[u8],
+    output: &mut Output<impl Write>,
+) -> io::Result<Run> {
+    while let Ok(played) = run::play(run, table, events) {
+        run = played.run;
+        events = &events[played.taken..];
+        let Some(refusal) = played.stop else {
             break;
         };
-        going.waiting = lines::event(to, out, going.waiting, run.events, number)?;
+        output.put(|bytes| report::event_line(bytes, run.events, u8::from(refusal)))?;
     }
-    Ok(going)
+    Ok(run)
 }
 
 // A line for each host, then the totals.
-fn conclude(to: &mut impl Write, course: Course, out: &mut [u8]) -> io::Result<()> {
-    let run = course.run;
-    let mut waiting = course.waiting;
-    for i in 0..least(32, run.world.n) {
-        let host = run.hosts[i as usize];
-        waiting = lines::host(to, out, waiting, i, host, run.world)?;
+fn conclude(run: Run, output: &mut Output<impl Write>) -> io::Result<()> {
+    for (me, host) in (0..run.world.n).zip(run.hosts) {
+        output.put(|bytes| report::host_line(bytes, me, host, run.world))?;
     }
-    waiting = lines::totals(to, out, waiting, run.events, run.refused)?;
-    lines::flush(to, out, waiting)
-}
-
-fn least(a: u32, b: u32) -> u32
-    ensures { (result ≤ a) × (result ≤ b) }
-{
-    if a < b { a } else { b }
-}
-
-// A place so far on, or the end.
-fn forward(at: usize, by: usize, end: usize) -> usize
-    requires { at ≤ end }
-    ensures { result ≤ end }
-{
-    if by <= end - at { at + by } else { end }
+    output.put(|bytes| report::totals_line(bytes, run.events, run.refused))
 }

@@ -18,14 +18,13 @@ use Rattle.host.specs.Words.{values, senders, has_sent, put}
 use Rattle.host.specs.Record.{lying}
 use Rattle.host.specs.Calls.{ready_guards}
 use Rattle.host.specs.declared.Host.{Host}
-use Rattle.host.specs.declared.Place.{Place}
+use Rattle.std.specs.Prelude.{Option, Some, None}
 use Rattle.host.proofs.Firsts.{first_nowhere}
 use Rattle.host.proofs.Puts.{put_length, put_same, put_others}
 use Rattle.host.proofs.Ranges.{ready_clear}
-use Rattle.delivery.specs.Recording.{frame_instance, frame_set, held_aux, held_from, record_over, recording, may_send}
+use Rattle.delivery.specs.Recording.{Repeat, frame_instance, frame_set, held_aux, held_from, record_over, recording, may_send}
 use Rattle.delivery.specs.Delivery.{receiver_guards, sender_guards, deliver_guards, concluded, delivering, after_unpacking, delivering_word, asking}
 use Rattle.delivery.specs.Parts.{Told}
-use Rattle.delivery.specs.declared.recording.Recorded.{Recorded}
 use Rattle.delivery.proofs.Telling.{told, told_in}
 
 -- ---- Recording
@@ -33,17 +32,17 @@ use Rattle.delivery.proofs.Telling.{told, told_in}
 left_is : {A M : Type 0} {a b : A} {before after : M} → ◌≡◌ {A = Answer (A × M)} (accepted (a, before)) (accepted (b, after)) → before ≡ after
 left_is {A} {M} {a} {b} {before} {after} e = let z : ◌≡◌ {A = A × M} (a, before) (b, after) = cc in ap (λ x. x.1) z
 
-record_go : (P : List ℕ → Type 0) (words after : List ℕ) (f : Frame) (b m : Bool) (p q : Place) → m ≡ b → q ≡ p
-    → (m ≡ true → P words) → (q ≡ Place.Nowhere → P (put words (frame_set f) f.sender))
-    → concluded (cond b (Recorded.Repeat, words) (record_over words f p)) ≡ accepted (tt, after) → P after
+record_go : (P : List ℕ → Type 0) (words after : List ℕ) (f : Frame) (b m : Bool) (p q : Option ℕ) → m ≡ b → q ≡ p
+    → (m ≡ true → P words) → (q ≡ None → P (put words (frame_set f) f.sender))
+    → concluded (cond b (Repeat, words) (record_over words f p)) ≡ accepted (tt, after) → P after
 record_go P words after f true m p q eb ep same new e = rw (sym (left_is e)) (same eb)
-record_go P words after f false m (Place.At k) q eb ep same new e = absurd (not_both e refl)
-record_go P words after f false m Place.Nowhere q eb ep same new e = rw (sym (left_is e)) (new ep)
+record_go P words after f false m (Some k) q eb ep same new e = absurd (not_both e refl)
+record_go P words after f false m None q eb ep same new e = rw (sym (left_is e)) (new ep)
 
 -- the two cases of an accepted recording: the sender is in the set already, or nothing stands in the way and it joins it
 by_record : (P : List ℕ → Type 0) (words after : List ℕ) (f : Frame)
     → (member (senders words f.kind (frame_instance f) f.value) f.sender ≡ true → P words)
-    → (held_from words f (frame_instance f) ≡ Place.Nowhere → P (put words (frame_set f) f.sender))
+    → (held_from words f (frame_instance f) ≡ None → P (put words (frame_set f) f.sender))
     → concluded (recording words f) ≡ accepted (tt, after) → P after
 unfolding recording
 by_record P words after f =

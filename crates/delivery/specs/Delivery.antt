@@ -1,17 +1,15 @@
 -- The calls of a delivery: what each answers and leaves, for every content of what it is lent. Document 01, "What a host does" (Delivery) and
 -- "Refusal numbers".
-use Rattle.std.specs.Prelude.{ℕ, ◌≡◌, Bool, not, List, [], ◌∷◌, ◌++◌, leb, length}
-use Rattle.answer.specs.Answer.{Answer, refused, accepted, Guard, ◌when◌, past, guarded, beside, lent}
+use Rattle.std.specs.Prelude.{ℕ, ◌≡◌, Bool, not, List, [], ◌∷◌, ◌++◌, leb, length, Result}
+use Rattle.answer.specs.Answer.{Answer, refused, accepted, Guard, ◌when◌, past, guarded, beside, lent, says}
+use Rattle.answer.specs.declared.Refusal.{Refusal}
 use Rattle.frame.specs.Frame.{unpacking, frame_guards}
 use Rattle.frame.specs.declared.Frame.{Frame}
 use Rattle.quorum.specs.declared.World.{World}
 use Rattle.host.specs.Record.{lying, broken}
 use Rattle.host.specs.Calls.{ready_guards}
 use Rattle.host.specs.declared.Host.{Host}
-use Rattle.delivery.specs.Recording.{recording, may_send}
-use Rattle.delivery.specs.declared.Delivered.{Delivered}
-use Rattle.delivery.specs.declared.Said.{Said}
-use Rattle.delivery.specs.declared.recording.Recorded.{Recorded}
+use Rattle.delivery.specs.Recording.{Recorded, New, Repeat, Held, recording, may_send}
 
 -- ---- Guards
 
@@ -34,9 +32,9 @@ deliver_guards words h w f said = receiver_guards (length words) h w ++ sender_g
 
 -- 12: "another AUX of this sender is recorded in that instance"
 abbrev pub outcome : Recorded → Answer Unit
-outcome Recorded.New = accepted tt
-outcome Recorded.Repeat = accepted tt
-outcome (Recorded.Held v) = refused 12
+outcome New = accepted tt
+outcome Repeat = accepted tt
+outcome (Held v) = refused 12
 
 abbrev pub concluded : Recorded × List ℕ → Answer (Unit × List ℕ)
 concluded p = beside (outcome p.0) p.1
@@ -58,28 +56,18 @@ delivering_word words h w word said = after_unpacking words h w said (unpacking 
 unfoldable pub asking : List ℕ → Host → World → Frame → Answer Bool
 asking words h w f = guarded (ready_guards (length words) h w ++ sender_guards w f) (may_send words h f)
 
--- ---- Document 01's number and values, for every case of the two enums
-
-abbrev pub delivered_says : Delivered → Answer Unit
-delivered_says Delivered.Accepted = accepted tt
-delivered_says (Delivered.Refused k) = refused k
-
-abbrev pub said_says : Said → Answer Bool
-said_says (Said.Known b) = accepted b
-said_says (Said.Refused k) = refused k
-
 -- ---- Promises
 
 -- the promise of `deliver`
-abbrev pub Delivers : List ℕ → Host → World → Frame → Bool → Delivered → List ℕ → Type 0
-Delivers before host world frame said answer after =
-    ◌≡◌ {A = Answer Unit × List ℕ} (delivered_says answer, after) (delivering before host world frame said)
+abbrev pub Delivers : List ℕ → Host → World → Frame → Bool → Result Unit Refusal → List ℕ → Type 0
+Delivers before host world frame said result after =
+    ◌≡◌ {A = Answer Unit × List ℕ} (says result, after) (delivering before host world frame said)
 
 -- the promise of `deliver_word`
-abbrev pub DeliversWord : List ℕ → Host → World → ℕ → Bool → Delivered → List ℕ → Type 0
-DeliversWord before host world word said answer after =
-    ◌≡◌ {A = Answer Unit × List ℕ} (delivered_says answer, after) (delivering_word before host world word said)
+abbrev pub DeliversWord : List ℕ → Host → World → ℕ → Bool → Result Unit Refusal → List ℕ → Type 0
+DeliversWord before host world word said result after =
+    ◌≡◌ {A = Answer Unit × List ℕ} (says result, after) (delivering_word before host world word said)
 
 -- the promise of `may_send`
-abbrev pub Asks : List ℕ → Host → World → Frame → Said → Type 0
-Asks words host world frame answer = said_says answer ≡ asking words host world frame
+abbrev pub Asks : List ℕ → Host → World → Frame → Result Bool Refusal → Type 0
+Asks words host world frame result = says result ≡ asking words host world frame

@@ -1,12 +1,6 @@
--- What private functions answer, for every case, and what they ask: these definitions serve the crate, and no promise of a call names them.
+-- What private functions ask of a frame: this definition serves the crate, and no promise of a call names it.
 use Rattle.std.specs.Prelude.{◌≤◌, ◌<◌}
-use Rattle.answer.specs.Answer.{Answer, refused, accepted}
 use Rattle.frame.specs.declared.Frame.{Frame}
-use Rattle.delivery.specs.declared.gates.Gate.{Gate}
-
-abbrev pub gate_says : Gate → Answer Unit
-gate_says Gate.Open = accepted tt
-gate_says (Gate.Refused k) = refused k
 
 -- every field of a frame in its range
 pub record Told (f : Frame) : Type 0 where

@@ -1,76 +1,89 @@
 // Recording a frame, and what a host has sent itself.
-ghost use Rattle.std.specs.Prelude.{◌≡◌, List, ℕ, ◌<◌, ◌≤◌, length};
-ghost use Rattle.delivery.specs.Recording.{held_aux, held_from, recording, may_send};
+ghost use Rattle.std.specs.Prelude.{◌≡◌, List, ℕ, ◌≤◌, length};
+ghost use Rattle.answer.specs.Answer.{Answer, lent, says};
+ghost use Rattle.quorum.specs.Sets.{member};
+ghost use Rattle.host.specs.Words.{senders, has_sent};
+ghost use Rattle.delivery.specs.Recording.{frame_instance, frame_set, held_from, recording};
+ghost use Rattle.delivery.specs.Delivery.{concluded};
 ghost use Rattle.delivery.specs.Parts.{Told};
-ghost use Rattle.delivery.specs.declared.recording.Recorded.{Recorded};
 
+use answer::Refusal;
 use frame::Frame;
-use host::{Host, Place};
 
-// A frame was not yet recorded, was recorded before, or another AUX of its sender, of this value,
-// is held.
+// A host's words, and a frame that they are asked about: the words are all there, and each field of
+// the frame is in its range.
+// Kept: the layout of the words here and in `turn`, since a type for both crates would be public, and
+// its methods would ask for a kind and a value in range, while no public function asks anything.
 #[derive(Clone, Copy, Drop)]
-pub enum Recorded {
-    New,
-    Repeat,
-    Held(usize),
+pub(crate) struct Heard<'a> {
+    pub(crate) sets: &'a [u32],
+    pub(crate) frame: Frame,
+    ghost told: { Told frame },
+    ghost all: { 448 ≤ length sets.now },
 }
 
-// The value of the AUX of a sender that an instance holds, the lowest if it holds several.
-#[tactic(auto, unfolding(host::specs::Words::senders, crate::specs::Recording::held_aux))]
-fn held_aux(sets: &[u32], inst: usize, sender: usize) -> Place
-    requires { (inst < 64) × (448 ≤ length sets.now) }
-    ensures { result ≡ held_aux sets.now inst sender }
-{
-    let mut held = Place::Nowhere;
-    for value in 0..2 + inst % 2 {
-        if quorum::has(sets[7 * inst + 3 + value], sender) {
-            held = Place::At(value);
-            break;
+impl Heard<'_> {
+    // The instance that the frame speaks of.
+    fn instance(&self) -> usize
+        ensures { result ≡ frame_instance self.now.frame }
+    {
+        host::instance(self.frame.round, self.frame.phase, self.frame.stage)
+    }
+
+    // Where the set stands that the frame's sender is to join.
+    fn place(&self) -> usize
+        ensures { result ≡ frame_set self.now.frame }
+    {
+        7 * self.instance() + 3 * self.frame.kind as usize + self.frame.value as usize
+    }
+
+    // Whether the sender is in that set.
+    #[tactic(auto, unfolding(host::specs::Words::senders))]
+    fn is_recorded(&self) -> bool
+        ensures { result ≡ member (senders self.now.sets.now self.now.frame.kind (frame_instance self.now.frame) self.now.frame.value) self.now.frame.sender }
+    {
+        quorum::has(self.sets[self.place()], self.frame.sender as usize)
+    }
+
+    // What stands in the way of recording the frame: of a VAL nothing, of an AUX the value of one of
+    // its sender's, the lowest if the instance holds several.
+    fn held(&self) -> Option<usize>
+        ensures { result ≡ held_from self.now.sets.now self.now.frame (frame_instance self.now.frame) }
+    {
+        if self.frame.kind == frame::VAL {
+            return None;
         }
+        let inst = self.instance();
+        let sender = self.frame.sender as usize;
+        (0..2 + inst % 2).find(|&value| quorum::has(self.sets[7 * inst + 3 + value], sender))
     }
-    held
+
+    // Whether the host has sent the frame itself.
+    #[tactic(auto, unfolding(host::specs::Words::marks))]
+    pub(crate) fn was_sent(&self) -> bool
+        ensures { result ≡ has_sent self.now.sets.now self.now.frame.kind (frame_instance self.now.frame) self.now.frame.value }
+    {
+        let bit = 7 * self.frame.kind as usize + self.frame.value as usize;
+        quorum::has(self.sets[7 * self.instance() + 6], bit)
+    }
 }
 
-// What stands in the way of recording a frame: of a VAL nothing, of an AUX the one that is held.
-fn held_from(sets: &[u32], frame: Frame, inst: usize) -> Place
-    requires { (inst < 64) × (448 ≤ length sets.now) }
-    ensures { result ≡ held_from sets.now frame inst }
-{
-    if frame.kind == 0 {
-        return Place::Nowhere;
-    }
-    held_aux(sets, inst, frame.sender as usize)
-}
-
-// Records a frame.
+// Records a frame, where no other AUX of its sender is held: refusal 12. A frame that is recorded
+// already changes nothing.
+// Kept: the two facts as clauses, since the words are written here and `Heard` only reads them.
 #[tactic(auto, unfolding(crate::specs::Recording::recording, host::specs::Words::senders, host::specs::Words::put))]
-pub(crate) fn record(sets: &mut [u32], frame: Frame) -> Recorded
+pub(crate) fn record(sets: &mut [u32], frame: Frame) -> Result<(), Refusal>
     requires { Told frame × (448 ≤ length sets.old) }
-    ensures { ◌≡◌ {A = Recorded × List ℕ} (result, sets.new) (recording sets.old frame) }
+    ensures { ◌≡◌ {A = Answer Unit × List ℕ} (says result, sets.new) (lent sets.old (concluded (recording sets.old frame))) }
 {
-    let inst = host::instance(frame.round, frame.phase, frame.stage);
-    let at = 7 * inst + 3 * frame.kind as usize + frame.value as usize;
-    let sender = frame.sender as usize;
-    if quorum::has(sets[at], sender) {
-        return Recorded::Repeat;
+    let heard = Heard { sets, frame };
+    if heard.is_recorded() {
+        return Ok(());
     }
-    let held = held_from(sets, frame, inst);
-    if let Place::At(value) = held {
-        return Recorded::Held(value);
+    if heard.held().is_some() {
+        return Err(Refusal::OtherAux);
     }
-    sets[at] = sets[at] | 1 << sender;
-    Recorded::New
-}
-
-// Whether a host with these words and this record may have sent a frame.
-#[tactic(auto, unfolding(crate::specs::Recording::may_send, host::specs::Words::marks))]
-pub(crate) fn may_come(sets: &[u32], host: Host, frame: Frame) -> bool
-    requires { Told frame × (448 ≤ length sets.now) }
-    ensures { result ≡ may_send sets.now host frame }
-{
-    let inst = host::instance(frame.round, frame.phase, frame.stage);
-    let marks = sets[7 * inst + 6];
-    let sent = quorum::has(marks, 7 * frame.kind as usize + frame.value as usize);
-    (host.standing == 3) | sent
+    let place = heard.place();
+    sets[place] |= 1 << frame.sender;
+    Ok(())
 }

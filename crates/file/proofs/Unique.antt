@@ -1,61 +1,37 @@
--- Each promise allows one answer. Assumes nothing.
+-- Each promise allows one result. Assumes nothing.
 use Prim.Native.Nat.{ℕ}
-use mathlib.Core.Path.{◌≡◌, refl}
+use mathlib.Core.Path.{◌≡◌, refl, sym, ap, ◌∙◌}
 use mathlib.Core.List.{List}
-use Rattle.answer.specs.Answer.{Answer, refused, accepted}
-use Rattle.answer.proofs.Once.{once, once_lent}
-use Rattle.frame.specs.declared.Sound.{Sound}
-use Rattle.frame.proofs.Unique.{one_sound}
+use Rattle.std.specs.Prelude.{Option, Some, None, Result}
+use Rattle.answer.specs.Answer.{Answer, refused, says}
+use Rattle.answer.specs.declared.Refusal.{Refusal}
+use Rattle.answer.proofs.Once.{says_once}
 use Rattle.quorum.specs.declared.World.{World}
 use Rattle.host.specs.declared.Host.{Host}
-use Rattle.file.specs.Reading.{Sight, nothing, something, heading, enrolling, event_at, allowing, header_says, record_says, seen_says, Heads, Enrols, Shows, Allows}
-use Rattle.file.specs.declared.Header.{Header}
-use Rattle.file.specs.declared.Record.{Record}
+use Rattle.file.specs.Reading.{Sight, nothing, something, heading, enrolling, event_at, allowing, seen_says, Heads, Enrols, Shows, Allows}
 use Rattle.file.specs.declared.Event.{Event}
-use Rattle.file.specs.declared.Seen.{Seen}
 
-headed : Answer World → Header
-headed (accepted w) = Header.World w
-headed (refused k) = Header.Refused k
+pub heads_once : (bytes : List ℕ) (a b : Result World Refusal) → Heads bytes a → Heads bytes b → a ≡ b
+heads_once bytes = says_once (heading bytes)
 
-headed_says : (a : Header) → headed (header_says a) ≡ a
-unfolding headed
-headed_says (Header.World w) = refl
-headed_says (Header.Refused k) = refl
+pub enrols_once : (bytes : List ℕ) (at : ℕ) (a b : Result Host Refusal) → Enrols bytes at a → Enrols bytes at b → a ≡ b
+enrols_once bytes at = says_once (enrolling bytes at)
 
--- one value of the enum for each answer, and one content of what stands beside it
-pub one_header : {M : Type 0} (r : Answer World × M) (a b : Header) (x y : M) → ◌≡◌ {A = Answer World × M} (header_says a, x) r
-    → ◌≡◌ {A = Answer World × M} (header_says b, y) r → (a ≡ b) × (x ≡ y)
-one_header = once_lent header_says headed headed_says
+-- what an event's sight says of the event
+answer : Sight → Answer Event
+answer (something r) = r
+answer nothing = refused 0
 
-pub heads_once : (bytes : List ℕ) (a b : Header) → Heads bytes a → Heads bytes b → a ≡ b
-heads_once bytes = once header_says headed headed_says (heading bytes)
+-- one result, or none, for each sight
+seen_once : (s : Sight) (a b : Option (Result Event Refusal)) → seen_says a ≡ s → seen_says b ≡ s → a ≡ b
+unfolding answer
+seen_once s None None p q = refl
+seen_once s None (Some b) p q = cc
+seen_once s (Some a) None p q = cc
+seen_once s (Some a) (Some b) p q = ap Some (says_once (says b) a b (ap answer (p ∙ sym q)) refl)
 
-enrolled : Answer Host → Record
-enrolled (accepted h) = Record.Host h
-enrolled (refused k) = Record.Refused k
+pub shows_once : (bytes : List ℕ) (at : ℕ) (a b : Option (Result Event Refusal)) → Shows bytes at a → Shows bytes at b → a ≡ b
+shows_once bytes at = seen_once (event_at bytes at)
 
-enrolled_says : (a : Record) → enrolled (record_says a) ≡ a
-unfolding enrolled
-enrolled_says (Record.Host h) = refl
-enrolled_says (Record.Refused k) = refl
-
-pub enrols_once : (bytes : List ℕ) (at : ℕ) (a b : Record) → Enrols bytes at a → Enrols bytes at b → a ≡ b
-enrols_once bytes at = once record_says enrolled enrolled_says (enrolling bytes at)
-
-seen : Sight → Seen
-seen (something (accepted e)) = Seen.Event e
-seen (something (refused k)) = Seen.Refused k
-seen nothing = Seen.Nothing
-
-seen_says_lem : (a : Seen) → seen (seen_says a) ≡ a
-unfolding seen
-seen_says_lem (Seen.Event e) = refl
-seen_says_lem (Seen.Refused k) = refl
-seen_says_lem Seen.Nothing = refl
-
-pub shows_once : (bytes : List ℕ) (at : ℕ) (a b : Seen) → Shows bytes at a → Shows bytes at b → a ≡ b
-shows_once bytes at = once seen_says seen seen_says_lem (event_at bytes at)
-
-pub allows_once : (e : Event) (w : World) (a b : Sound) → Allows e w a → Allows e w b → a ≡ b
-allows_once e w = one_sound (allowing e w)
+pub allows_once : (e : Event) (w : World) (a b : Result Unit Refusal) → Allows e w a → Allows e w b → a ≡ b
+allows_once e w = says_once (allowing e w)

@@ -1,17 +1,13 @@
 -- What reading a run file answers, for every byte string. Document 01, "Refusal numbers": "Header: 1, 2, 3, 4; then per host record 1, 4. Event:
 -- 1, 4, 5 (host)".
-use Rattle.std.specs.Prelude.{ℕ, ◌-◌, ◌≡◌, Bool, cond, ◌&&◌, ◌||◌, not, List, [], ◌∷◌, ◌++◌, ltb, leb, eqb, length, get_or}
-use Rattle.answer.specs.Answer.{Answer, refused, accepted, Guard, ◌when◌, guarded}
-use Rattle.frame.specs.Frame.{sound_says}
-use Rattle.frame.specs.declared.Sound.{Sound}
+use Rattle.std.specs.Prelude.{ℕ, ◌-◌, ◌≡◌, Bool, cond, ◌&&◌, ◌||◌, not, List, [], ◌∷◌, ◌++◌, ltb, leb, eqb, length, get_or, Option, Some, None, Result}
+use Rattle.answer.specs.Answer.{Answer, Guard, ◌when◌, guarded, says}
+use Rattle.answer.specs.declared.Refusal.{Refusal}
 use Rattle.quorum.specs.World.{world_guards}
 use Rattle.quorum.specs.declared.World.{World}
 use Rattle.host.specs.declared.Host.{Host}
 use Rattle.file.specs.Layouts.{two, three_at, header_world, header_spare, honest, record_spare, first_host, event_of}
-use Rattle.file.specs.declared.Header.{Header}
-use Rattle.file.specs.declared.Record.{Record}
 use Rattle.file.specs.declared.Event.{Event}
-use Rattle.file.specs.declared.Seen.{Seen}
 
 -- how many bytes stand from a place on
 abbrev pub left_from : List ℕ → ℕ → ℕ
@@ -69,35 +65,25 @@ event_guards e w = (4 when bad_event e) ∷ (5 when leb w.n e.host) ∷ []
 unfoldable pub allowing : Event → World → Answer Unit
 allowing e w = guarded (event_guards e w) tt
 
--- ---- Document 01's number and values, for every case of the enums
-
-abbrev pub header_says : Header → Answer World
-header_says (Header.World w) = accepted w
-header_says (Header.Refused k) = refused k
-
-abbrev pub record_says : Record → Answer Host
-record_says (Record.Host h) = accepted h
-record_says (Record.Refused k) = refused k
-
-abbrev pub seen_says : Seen → Sight
-seen_says (Seen.Event e) = something (accepted e)
-seen_says (Seen.Refused k) = something (refused k)
-seen_says Seen.Nothing = nothing
+-- the sight that a result is, or none
+abbrev pub seen_says : Option (Result Event Refusal) → Sight
+seen_says (Some result) = something (says result)
+seen_says None = nothing
 
 -- ---- Promises
 
 -- the promise of `header_of`
-abbrev pub Heads : List ℕ → Header → Type 0
-Heads bytes answer = header_says answer ≡ heading bytes
+abbrev pub Heads : List ℕ → Result World Refusal → Type 0
+Heads bytes result = says result ≡ heading bytes
 
 -- the promise of `record_at`
-abbrev pub Enrols : List ℕ → ℕ → Record → Type 0
-Enrols bytes at answer = record_says answer ≡ enrolling bytes at
+abbrev pub Enrols : List ℕ → ℕ → Result Host Refusal → Type 0
+Enrols bytes at result = says result ≡ enrolling bytes at
 
 -- the promise of `event_at`
-abbrev pub Shows : List ℕ → ℕ → Seen → Type 0
-Shows bytes at answer = seen_says answer ≡ event_at bytes at
+abbrev pub Shows : List ℕ → ℕ → Option (Result Event Refusal) → Type 0
+Shows bytes at result = seen_says result ≡ event_at bytes at
 
 -- the promise of `check`
-abbrev pub Allows : Event → World → Sound → Type 0
-Allows event world answer = sound_says answer ≡ allowing event world
+abbrev pub Allows : Event → World → Result Unit Refusal → Type 0
+Allows event world result = says result ≡ allowing event world

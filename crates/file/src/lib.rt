@@ -6,28 +6,24 @@
 
 mod bits;
 
-ghost use Rattle.std.specs.Prelude.{◌-◌, ◌≡◌, length};
-ghost use Rattle.file.specs.Reading.{Heads, Enrols, Shows, Allows};
+ghost use Rattle.std.specs.Prelude.{◌≡◌};
+ghost use Rattle.answer.specs.Answer.{guarded, says};
+ghost use Rattle.file.specs.Layouts.{three_at};
+ghost use Rattle.file.specs.Reading.{piece_guards, Heads, Enrols, Shows, Allows};
 
-use frame::Sound;
+use answer::Refusal;
 use host::Host;
-use quorum::{Checked, World};
+use quorum::World;
 
-#[derive(Clone, Copy, Drop)]
-pub enum Header {
-    World(World),
-    Refused(u8),
-}
+// The kinds of events.
+pub const DELIVER: u8 = 0;
 
-#[derive(Clone, Copy, Drop)]
-pub enum Record {
-    Host(Host),
-    Refused(u8),
-}
+pub const TURN: u8 = 2;
 
-// An event's fields: kind 0 deliver, 2 turn; the receiver, or the host whose turn it is; a packed
+// An event's fields: kind DELIVER or TURN; the receiver, or the host whose turn it is; a packed
 // frame, or 0 for a turn. Any numbers may stand here: `check` says what is no event.
-#[derive(Clone, Copy, Drop)]
+// Kept: numbers, since `check` and `table::step` answer for every one of them.
+#[derive(Clone, Copy, Debug, PartialEq, Eq, Drop)]
 pub struct Event {
     pub kind: u8,
     pub spare: u8,
@@ -35,89 +31,66 @@ pub struct Event {
     pub word: u16,
 }
 
-// What stands at a place of the bytes: an event, a piece of one, or nothing.
-#[derive(Clone, Copy, Drop)]
-pub enum Seen {
-    Event(Event),
-    Refused(u8),
-    Nothing,
-}
-
 // The world of the header: refusals 1, 2, 3, 4.
-#[tactic(auto, unfolding(crate::specs::Reading::heading))]
-pub fn header_of(bytes: &[u8]) -> Header
+#[tactic(auto, unfolding(crate::specs::Reading::heading, quorum::specs::World::checking))]
+pub fn header_of(bytes: &[u8]) -> Result<World, Refusal>
     ensures { Heads bytes.now result }
 {
-    if bytes.len() < 2 {
-        return Header::Refused(1);
-    }
-    let word = bits::two(bytes[0], bytes[1]);
+    let [high, low, ..] = *bytes else {
+        return Err(Refusal::Incomplete);
+    };
+    let word = u16::from_be_bytes([high, low]);
     let world = bits::world_of(word);
-    let spare = word % 128;
-    let checked = quorum::check(world);
-    if let Checked::Refused(number) = checked {
-        return Header::Refused(number);
+    quorum::check(world)?;
+    if word & 0x7f != 0 {
+        return Err(Refusal::NotZero);
     }
-    if spare != 0 {
-        return Header::Refused(4);
-    }
-    Header::World(world)
+    Ok(world)
 }
 
 // The host record at a place, as it starts: refusals 1, 4.
 #[tactic(auto, unfolding(crate::specs::Reading::enrolling))]
-pub fn record_at(bytes: &[u8], at: usize) -> Record
+pub fn record_at(bytes: &[u8], at: usize) -> Result<Host, Refusal>
     ensures { Enrols bytes.now at result }
 {
-    let left = left_from(bytes, at);
-    if left < 3 {
-        return Record::Refused(1);
+    let number = three_at(bytes, at)?;
+    if bits::bad_record(number) {
+        return Err(Refusal::NotZero);
     }
-    let number = bits::three(bytes[at], bytes[at + 1], bytes[at + 2]);
-    let bad = bits::bad_record(number);
-    if bad {
-        return Record::Refused(4);
-    }
-    Record::Host(bits::host_of(number))
+    Ok(bits::host_of(number))
 }
 
-// The event at a place: refusal 1 where the bytes end within it.
+// The event at a place, or none where no bytes are left: refusal 1 where they end within it.
 #[tactic(auto, unfolding(crate::specs::Reading::event_at, crate::specs::Reading::event_in))]
-pub fn event_at(bytes: &[u8], at: usize) -> Seen
+pub fn event_at(bytes: &[u8], at: usize) -> Option<Result<Event, Refusal>>
     ensures { Shows bytes.now at result }
 {
-    let left = left_from(bytes, at);
-    if left == 0 {
-        return Seen::Nothing;
+    if bytes.len() <= at {
+        return None;
     }
-    if left < 3 {
-        return Seen::Refused(1);
-    }
-    let number = bits::three(bytes[at], bytes[at + 1], bytes[at + 2]);
-    Seen::Event(bits::event_of(number))
+    Some(three_at(bytes, at).map(bits::event_of))
 }
 
 // Whether an event is one of this world: refusals 4, 5.
 #[tactic(auto, unfolding(crate::specs::Reading::allowing))]
-pub fn check(event: Event, world: World) -> Sound
+pub fn check(event: Event, world: World) -> Result<(), Refusal>
     ensures { Allows event world result }
 {
-    let bad = bits::bad_event(event);
-    if bad {
-        return Sound::Refused(4);
+    if bits::bad_event(event) {
+        return Err(Refusal::NotZero);
     }
-    if world.n <= event.host as u32 {
-        return Sound::Refused(5);
+    if world.n <= u32::from(event.host) {
+        return Err(Refusal::Unnamed);
     }
-    Sound::Yes
+    Ok(())
 }
 
-// How many bytes stand from a place on.
-fn left_from(bytes: &[u8], at: usize) -> usize
-    ensures { result ≡ length bytes.now - at }
+// The three bytes at a place, as a number: refusal 1 where fewer are left.
+fn three_at(bytes: &[u8], at: usize) -> Result<u32, Refusal>
+    ensures { says result ≡ guarded (piece_guards bytes.now at) (three_at bytes.now at) }
 {
-    if bytes.len() < at {
-        return 0;
-    }
-    bytes.len() - at
+    let Some([high, middle, low, ..]) = bytes.get(at..) else {
+        return Err(Refusal::Incomplete);
+    };
+    Ok(u32::from_be_bytes([0, *high, *middle, *low]))
 }

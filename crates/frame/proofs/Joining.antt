@@ -40,18 +40,3 @@ fields_above (k ∷ ks) [] h f = elim f [ ]
 
 pub fields_join : (ks xs : List ℕ) → Fit ks xs → fields ks (joined ks xs) ≡ xs
 fields_join ks xs f = rw (zero-mul, zero-add) at (fields_above ks xs 0 f)
-
--- as code makes it: each field put below the word so far, which begins as h
-abbrev pub pushed : ℕ → List ℕ → List ℕ → ℕ
-pushed h [] xs = h
-pushed h (k ∷ ks) [] = h
-pushed h (k ∷ ks) (x ∷ xs) = pushed (h * 2 ^ k + x) ks xs
-
-pushed_above : (ks xs : List ℕ) (h : ℕ) → Fit ks xs → pushed h ks xs ≡ h * 2 ^ total ks + joined ks xs
-pushed_above [] [] h f = omega arith
-pushed_above (k ∷ ks) (x ∷ xs) h (l, f) = pushed_above ks xs (h * 2 ^ k + x) f ∙ sym (above h k x (total ks) (joined ks xs))
-pushed_above [] (x ∷ xs) h f = elim f [ ]
-pushed_above (k ∷ ks) [] h f = elim f [ ]
-
-pub pushed_joins : (ks xs : List ℕ) → Fit ks xs → pushed 0 ks xs ≡ joined ks xs
-pushed_joins ks xs f = pushed_above ks xs 0 f ∙ rw (zero-mul, zero-add)

@@ -1,25 +1,16 @@
 -- Laws on bits, and what the refusals that do not hold leave of a frame. Assumes nothing.
-use Prim.Native.Nat.{ℕ, ◌+◌, ◌-◌, ◌*◌, ◌%◌, ◌^◌, ◌≤◌, ◌<◌}
+use Prim.Native.Nat.{ℕ, ◌+◌, ◌*◌, ◌%◌, ◌^◌, ◌≤◌, ◌<◌}
 use mathlib.Core.Path.{◌≡◌, ap, ◌∙◌}
 use mathlib.Core.Bool.{false, ◌&&◌, ◌||◌}
-use native.Mathlib.Nat.{one-mul, mod-eq_of_lt}
+use native.Mathlib.Nat.{mod-eq_of_lt}
 use native.Mathlib.Omega.{arith}
-use lib.Bits.{bit_and, bit_or, and_mask, or_shifted}
-use lib.Dec.{lit<, ltb, eqb}
-use lib.Pow.{shl_exact}
+use lib.Bits.{bit_or, or_shifted}
+use lib.Dec.{ltb, eqb}
 use borrow.Author.Tests.{ltb-false, eqb-false}
-use Rattle.answer.proofs.Tests.{neither}
+use Rattle.std.proofs.lemmas.Bool.{or_parts}
 use Rattle.frame.specs.Layout.{Fit}
 use Rattle.frame.specs.Frame.{widths, parts, bad_round, bad_value, unnamed, too_large}
 use Rattle.frame.specs.declared.Frame.{Frame}
-
--- `1 << k` within sixteen bits
-pub one_shl : (k : ℕ) → k < 16 → 1 * 2 ^ k % 65536 ≡ 2 ^ k
-one_shl k h = shl_exact 1 k 16 (lit< tt) (omega arith) ∙ one-mul (2 ^ k)
-
--- `x & (1 << k) - 1`: the low k bits
-pub low_bits : (x k : ℕ) → k < 16 → bit_and x (1 * 2 ^ k % 65536 - 1) ≡ x % 2 ^ k
-low_bits x k h = ap (λ (p : ℕ). bit_and x (p - 1)) (one_shl k h) ∙ and_mask x k
 
 -- `x << k | y`, where no bit is lost and y has k bits
 pub shl_or : (x k y : ℕ) → y < 2 ^ k → x * 2 ^ k + y < 65536 → bit_or (x * 2 ^ k % 65536) y ≡ x * 2 ^ k + y
@@ -30,21 +21,21 @@ shl_or x k y l h =
 -- what the refusals that do not hold tell of a frame: its round, its value, and its kind, phase and stage
 pub round_in : (r : ℕ) → bad_round r ≡ false → (1 ≤ r) × (r ≤ 16)
 round_in r e =
-    let (none, high) = neither (eqb r 0) (ltb 16 r) e in
+    let (none, high) = or_parts (eqb r 0) (ltb 16 r) e in
     let some = eqb-false r 0 none in
     omega (arith, ltb-false 16 r high)
 
 pub value_in : (v s : ℕ) → bad_value v s ≡ false → v < 3
-value_in v s e = omega (arith, ltb-false 2 v (neither (ltb 2 v) (eqb v 2 && eqb s 0) e).0)
+value_in v s e = omega (arith, ltb-false 2 v (or_parts (ltb 2 v) (eqb v 2 && eqb s 0) e).0)
 
 pub named_in : (f : Frame) → unnamed f ≡ false → (f.kind < 2) × (1 ≤ f.phase) × (f.phase ≤ 2) × (f.stage < 2)
 named_in f u =
     let kind = ltb 1 f.kind in
     let none = eqb f.phase 0 in
     let phase = ltb 2 f.phase in
-    let a = neither (kind || none || phase) (ltb 1 f.stage) u in
-    let b = neither (kind || none) phase a.0 in
-    let c = neither kind none b.0 in
+    let a = or_parts (kind || none || phase) (ltb 1 f.stage) u in
+    let b = or_parts (kind || none) phase a.0 in
+    let c = or_parts kind none b.0 in
     let some = eqb-false f.phase 0 c.1 in
     omega (arith, ltb-false 1 f.kind c.0, ltb-false 2 f.phase b.1, ltb-false 1 f.stage a.1)
 

@@ -7,13 +7,13 @@ use native.Mathlib.Omega.{arith}
 use lib.Dec.{eqb}
 use lib.ListN.{get_or}
 use borrow.Author.Tests.{le-ltb, ne_eqb, eqb-false}
+use Rattle.std.specs.Prelude.{Result, Ok}
 use Rattle.answer.specs.Answer.{refused, accepted}
+use Rattle.answer.specs.declared.Refusal.{Refusal}
 use Rattle.answer.proofs.Guards.{clear, passes, not_both}
 use Rattle.frame.specs.Layout.{total, fields, joined, Fit}
 use Rattle.frame.specs.Frame.{widths, field, parts, version, frame_of, word_of, unnamed, too_large, unpack_guards, unpacking, pack_guards, packing, Unpacks, Packs}
 use Rattle.frame.specs.declared.Frame.{Frame}
-use Rattle.frame.specs.declared.Unpacked.{Unpacked}
-use Rattle.frame.specs.declared.Packed.{Packed}
 use Rattle.frame.proofs.Joining.{join_fields, fields_join}
 use Rattle.frame.proofs.Laws.{writable}
 use Rattle.frame.proofs.Unique.{unpacks_once, packs_once}
@@ -69,11 +69,11 @@ pub frame_stands : (f : Frame) (w k : ℕ) → packing f ≡ accepted w → unpa
 frame_stands f w k e = not_both (pack_unpack f w e)
 
 -- the same of the calls themselves, by their promises: what `pack` answers for a frame that `unpack` answered, and the other way
-pub packs_back : (w : ℕ) (f : Frame) (b : Packed) → w < 2 ^ total widths → Unpacks w (Unpacked.Frame f) → Packs f b → b ≡ Packed.Word w
-packs_back w f b l u p = packs_once f b (Packed.Word w) p (sym (unpack_pack w f l (sym u)))
+pub packs_back : (w : ℕ) (f : Frame) (b : Result ℕ Refusal) → w < 2 ^ total widths → Unpacks w (Ok f) → Packs f b → b ≡ Ok w
+packs_back w f b l u p = packs_once f b (Ok w) p (sym (unpack_pack w f l (sym u)))
 
-pub unpacks_back : (f : Frame) (w : ℕ) (a : Unpacked) → Packs f (Packed.Word w) → Unpacks w a → a ≡ Unpacked.Frame f
-unpacks_back f w a p u = unpacks_once w a (Unpacked.Frame f) u (sym (pack_unpack f w (sym p)))
+pub unpacks_back : (f : Frame) (w : ℕ) (a : Result Frame Refusal) → Packs f (Ok w) → Unpacks w a → a ≡ Ok f
+unpacks_back f w a p u = unpacks_once w a (Ok f) u (sym (pack_unpack f w (sym p)))
 
 -- "A frame is sixteen bits"
 pub sixteen : total widths ≡ 16

@@ -1,12 +1,10 @@
 -- A frame's sixteen bits: what unpacking and packing answer, for every word and for every frame.
 -- Document 01, "Frames and run files" (the layout) and "Refusal numbers" (7, 8, 9 and 5, and their order).
-use Rattle.std.specs.Prelude.{ℕ, ◌+◌, ◌-◌, ◌≡◌, Bool, ◌&&◌, ◌||◌, List, [], ◌∷◌, ◌++◌, ltb, eqb, get_or}
-use Rattle.answer.specs.Answer.{Answer, refused, accepted, Guard, ◌when◌, guarded}
+use Rattle.std.specs.Prelude.{ℕ, ◌+◌, ◌-◌, ◌≡◌, Bool, ◌&&◌, ◌||◌, List, [], ◌∷◌, ◌++◌, ltb, eqb, get_or, Result}
+use Rattle.answer.specs.Answer.{Answer, Guard, ◌when◌, guarded, says}
+use Rattle.answer.specs.declared.Refusal.{Refusal}
 use Rattle.frame.specs.Layout.{fields, joined}
 use Rattle.frame.specs.declared.Frame.{Frame}
-use Rattle.frame.specs.declared.Unpacked.{Unpacked}
-use Rattle.frame.specs.declared.Packed.{Packed}
-use Rattle.frame.specs.declared.Sound.{Sound}
 
 -- "version 1 bit (0); kind 1 (0 VAL, 1 AUX); round 5; phase minus 1, 1 bit; stage 1; value 2 (0, 1, 2 for "neither", 3 unused); sender 5"
 abbrev pub widths : List ℕ
@@ -54,17 +52,20 @@ unnamed f = ltb 1 f.kind || eqb f.phase 0 || ltb 2 f.phase || ltb 1 f.stage
 abbrev pub too_large : Frame → Bool
 too_large f = ltb 31 f.sender
 
+-- 8, then 9
+abbrev pub vote_guards : Frame → List Guard
+vote_guards f = (8 when bad_round f.round) ∷ (9 when bad_value f.value f.stage) ∷ []
+
 -- "Unpacking a frame checks 7, 8, 9"
 abbrev pub unpack_guards : ℕ → List Guard
-unpack_guards w =
-    (7 when eqb (version w) 1) ∷ (8 when bad_round (frame_of w).round) ∷ (9 when bad_value (frame_of w).value (frame_of w).stage) ∷ []
+unpack_guards w = (7 when eqb (version w) 1) ∷ vote_guards (frame_of w)
 
 unfoldable pub unpacking : ℕ → Answer Frame
 unpacking w = guarded (unpack_guards w) (frame_of w)
 
 -- what a frame can't say to anyone, whoever sends it: "8, then 9, by the table's conditions, then 5"
 abbrev pub frame_guards : Frame → List Guard
-frame_guards f = (8 when bad_round f.round) ∷ (9 when bad_value f.value f.stage) ∷ (5 when unnamed f) ∷ []
+frame_guards f = vote_guards f ++ (5 when unnamed f) ∷ []
 
 unfoldable pub judging : Frame → Answer Unit
 judging f = guarded (frame_guards f) tt
@@ -76,27 +77,14 @@ pack_guards f = frame_guards f ++ (5 when too_large f) ∷ []
 unfoldable pub packing : Frame → Answer ℕ
 packing f = guarded (pack_guards f) (word_of f)
 
--- document 01's number and values, for every case of the three enums
-abbrev pub unpacked_says : Unpacked → Answer Frame
-unpacked_says (Unpacked.Frame f) = accepted f
-unpacked_says (Unpacked.Refused k) = refused k
-
-abbrev pub sound_says : Sound → Answer Unit
-sound_says Sound.Yes = accepted tt
-sound_says (Sound.Refused k) = refused k
-
-abbrev pub packed_says : Packed → Answer ℕ
-packed_says (Packed.Word w) = accepted w
-packed_says (Packed.Refused k) = refused k
-
 -- the promise of `unpack`
-abbrev pub Unpacks : ℕ → Unpacked → Type 0
-Unpacks word answer = unpacked_says answer ≡ unpacking word
+abbrev pub Unpacks : ℕ → Result Frame Refusal → Type 0
+Unpacks word result = says result ≡ unpacking word
 
 -- the promise of `pack`
-abbrev pub Packs : Frame → Packed → Type 0
-Packs frame answer = packed_says answer ≡ packing frame
+abbrev pub Packs : Frame → Result ℕ Refusal → Type 0
+Packs frame result = says result ≡ packing frame
 
 -- the promise of `check`
-abbrev pub Judges : Frame → Sound → Type 0
-Judges frame answer = sound_says answer ≡ judging frame
+abbrev pub Judges : Frame → Result Unit Refusal → Type 0
+Judges frame result = says result ≡ judging frame

@@ -4,14 +4,24 @@
 // has one: nothing panics, wraps or is masked away.
 #![tactic(auto)]
 
-ghost use Rattle.std.specs.Prelude.{◌+◌, ◌*◌, ◌/◌, ◌%◌, ◌^◌, ◌≤◌, ◌<◌, ◌≡◌};
-ghost use Rattle.frame.specs.Frame.{widths, parts, version, frame_of, word_of, bad_round, bad_value, unnamed, Unpacks, Judges, Packs};
+ghost use Rattle.std.specs.Prelude.{◌+◌, ◌*◌, ◌^◌, ◌≤◌, ◌<◌, ◌≡◌};
+ghost use Rattle.frame.specs.Frame.{widths, parts, version, frame_of, word_of, bad_round, bad_value, unnamed, vote_guards, Unpacks, Judges, Packs};
 ghost use Rattle.frame.specs.Layout.{Fit};
+ghost use Rattle.answer.specs.Answer.{guarded, says};
 
-// What a frame says. Kind: 0 VAL, 1 AUX. Round 1 to 16, phase 1 or 2, stage 0 or 1. Value: 0, 1, or
+use answer::Refusal;
+
+// The kinds of frames.
+pub const VAL: u8 = 0;
+
+pub const AUX: u8 = 1;
+
+// What a frame says. Kind: VAL or AUX. Round 1 to 16, phase 1 or 2, stage 0 or 1. Value: 0, 1, or
 // 2 for "neither". A struct of these may hold any numbers: `pack` refuses what a frame can't say.
+// Kept: numbers for the kind and the rest, since `check` and `pack` answer for every number, and a
+// frame crosses to C.
 #[repr(C)]
-#[derive(Clone, Copy, Drop)]
+#[derive(Clone, Copy, Debug, Default, PartialEq, Eq, Drop)]
 pub struct Frame {
     pub kind: u8,
     pub round: u8,
@@ -21,105 +31,81 @@ pub struct Frame {
     pub sender: u8,
 }
 
-#[derive(Clone, Copy, Drop)]
-pub enum Unpacked {
-    Frame(Frame),
-    Refused(u8),
-}
-
-#[derive(Clone, Copy, Drop)]
-pub enum Sound {
-    Yes,
-    Refused(u8),
-}
-
-#[derive(Clone, Copy, Drop)]
-pub enum Packed {
-    Word(u16),
-    Refused(u8),
-}
-
 // The frame that a word holds: refusals 7, 8, 9.
 #[tactic(auto, unfolding(crate::specs::Frame::unpacking))]
-pub fn unpack(word: u16) -> Unpacked
+pub fn unpack(word: u16) -> Result<Frame, Refusal>
     ensures { Unpacks word result }
 {
-    let version = version_of(word);
-    let frame = read_fields(word);
-    let no_round = bad_round(frame.round);
-    let no_value = bad_value(frame.value, frame.stage);
-    if version == 1 {
-        return Unpacked::Refused(7);
+    if version_of(word) == 1 {
+        return Err(Refusal::Version);
     }
-    if no_round {
-        return Unpacked::Refused(8);
-    }
-    if no_value {
-        return Unpacked::Refused(9);
-    }
-    Unpacked::Frame(frame)
+    let held = read_fields(word);
+    check_vote(held)?;
+    Ok(held)
 }
 
 // Whether a frame can be said at all, whoever its sender is: refusals 8, 9, 5.
 #[tactic(auto, unfolding(crate::specs::Frame::judging))]
-pub fn check(frame: Frame) -> Sound
+pub fn check(frame: Frame) -> Result<(), Refusal>
     ensures { Judges frame result }
 {
-    let wrong_round = bad_round(frame.round);
-    let wrong_value = bad_value(frame.value, frame.stage);
-    let wrong_name = no_name(frame);
-    if wrong_round {
-        return Sound::Refused(8);
+    check_vote(frame)?;
+    if no_name(frame) {
+        return Err(Refusal::Unnamed);
     }
-    if wrong_value {
-        return Sound::Refused(9);
-    }
-    if wrong_name {
-        return Sound::Refused(5);
-    }
-    Sound::Yes
+    Ok(())
 }
 
 // The word that holds a frame: refusals 8, 9, 5.
 #[tactic(auto, unfolding(crate::specs::Frame::packing, crate::specs::Frame::judging))]
-pub fn pack(frame: Frame) -> Packed
+pub fn pack(frame: Frame) -> Result<u16, Refusal>
     ensures { Packs frame result }
 {
-    let sound = check(frame);
-    if let Sound::Refused(number) = sound {
-        return Packed::Refused(number);
-    }
+    check(frame)?;
     if 31 < frame.sender {
-        return Packed::Refused(5);
+        return Err(Refusal::Unnamed);
     }
-    Packed::Word(write_fields(frame))
+    Ok(write_fields(frame))
+}
+
+// What a frame can't vote for: refusals 8, 9.
+fn check_vote(frame: Frame) -> Result<(), Refusal>
+    ensures { says result ≡ guarded (vote_guards frame) tt }
+{
+    if bad_round(frame.round) {
+        return Err(Refusal::Round);
+    }
+    if bad_value(frame.value, frame.stage) {
+        return Err(Refusal::Value);
+    }
+    Ok(())
 }
 
 // 8: a round that is none.
 fn bad_round(round: u8) -> bool
     ensures { result ≡ bad_round round }
 {
-    (round == 0) | (16 < round)
+    round == 0 || 16 < round
 }
 
 // 9: a value that is none, or neither in stage 0.
 fn bad_value(value: u8, stage: u8) -> bool
     ensures { result ≡ bad_value value stage }
 {
-    (2 < value) | ((value == 2) & (stage == 0))
+    2 < value || (value == 2 && stage == 0)
 }
 
 // 5: a kind, a phase or a stage that has no name.
-fn no_name(f: Frame) -> bool
-    ensures { result ≡ unnamed f }
+fn no_name(frame: Frame) -> bool
+    ensures { result ≡ unnamed frame }
 {
-    (1 < f.kind) | (f.phase == 0) | (2 < f.phase) | (1 < f.stage)
+    1 < frame.kind || frame.phase == 0 || 2 < frame.phase || 1 < frame.stage
 }
 
 fn version_of(word: u16) -> u8
     ensures { result ≡ version word }
 {
-    bits_from(word, 15, 1)
+    (word >> 15 & 1) as u8
 }
 
 // The other fields of a word, whatever they hold.
@@ -128,36 +114,27 @@ fn read_fields(word: u16) -> Frame
     ensures { result ≡ frame_of word }
 {
     Frame {
-        kind: bits_from(word, 14, 1),
-        round: bits_from(word, 9, 5),
-        phase: bits_from(word, 8, 1) + 1,
-        stage: bits_from(word, 7, 1),
-        value: bits_from(word, 5, 2),
-        sender: bits_from(word, 0, 5),
+        kind: (word >> 14 & 1) as u8,
+        round: (word >> 9 & 0x1f) as u8,
+        phase: (word >> 8 & 1) as u8 + 1,
+        stage: (word >> 7 & 1) as u8,
+        value: (word >> 5 & 3) as u8,
+        sender: (word & 0x1f) as u8,
     }
 }
 
 // The word of a frame that no refusal holds back, under version 0.
 #[tactic(auto, unfolding(crate::specs::Frame::word_of))]
-fn write_fields(f: Frame) -> u16
-    requires { (1 ≤ f.phase) × Fit widths (parts f) }
-    ensures { result ≡ word_of f }
+fn write_fields(frame: Frame) -> u16
+    requires { (1 ≤ frame.phase) × Fit widths (parts frame) }
+    ensures { result ≡ word_of frame }
 {
-    let kind = put_below(0, 1, f.kind);
-    let round = put_below(kind, 5, f.round);
-    let phase = put_below(round, 1, f.phase - 1);
-    let stage = put_below(phase, 1, f.stage);
-    let value = put_below(stage, 2, f.value);
-    put_below(value, 5, f.sender)
-}
-
-// The `width` bits of a word from its bit `low` up.
-#[tactic(auto, using(crate::proofs::Laws::low_bits))]
-fn bits_from(word: u16, low: u32, width: u32) -> u8
-    requires { (low < 16) × (width < 9) }
-    ensures { result ≡ word / 2 ^ low % 2 ^ width }
-{
-    (word >> low & (1 << width) - 1) as u8
+    let kind = put_below(0, 1, frame.kind);
+    let round = put_below(kind, 5, frame.round);
+    let phase = put_below(round, 1, frame.phase - 1);
+    let stage = put_below(phase, 1, frame.stage);
+    let value = put_below(stage, 2, frame.value);
+    put_below(value, 5, frame.sender)
 }
 
 // The word moved up by `width` bits, with a field of that width put below it.

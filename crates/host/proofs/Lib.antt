@@ -1,4 +1,5 @@
 pub mod Firsts
+pub mod Finding
 pub mod Ranges
 pub mod Puts
 pub mod Unique

@@ -7,7 +7,7 @@ use lib.Dec.{ltb, eqb}
 use borrow.Author.Tests.{ltb-false, eqb-true, eqb-false, not-false, le-ltb, eq-eqb, ne_eqb}
 use Rattle.answer.specs.Answer.{accepted, guarded}
 use Rattle.answer.proofs.Guards.{Clear, clear}
-use Rattle.answer.proofs.Tests.{neither}
+use Rattle.std.proofs.lemmas.Bool.{or_parts}
 use Rattle.quorum.specs.World.{thresholds_of}
 use Rattle.quorum.specs.declared.World.{World}
 use Rattle.quorum.specs.declared.Thresholds.{Thresholds}
@@ -21,10 +21,10 @@ use Rattle.host.specs.declared.Host.{Host}
 in_place : (r p s : ℕ) → eqb r 0 || ltb 16 r || eqb p 0 || ltb 2 p || ltb 1 s ≡ false
     → (1 ≤ r) × (r ≤ 16) × (1 ≤ p) × (p ≤ 2) × (s < 2)
 in_place r p s e =
-    let a = neither (eqb r 0 || ltb 16 r || eqb p 0 || ltb 2 p) (ltb 1 s) e in
-    let b = neither (eqb r 0 || ltb 16 r || eqb p 0) (ltb 2 p) a.0 in
-    let c = neither (eqb r 0 || ltb 16 r) (eqb p 0) b.0 in
-    let d = neither (eqb r 0) (ltb 16 r) c.0 in
+    let a = or_parts (eqb r 0 || ltb 16 r || eqb p 0 || ltb 2 p) (ltb 1 s) e in
+    let b = or_parts (eqb r 0 || ltb 16 r || eqb p 0) (ltb 2 p) a.0 in
+    let c = or_parts (eqb r 0 || ltb 16 r) (eqb p 0) b.0 in
+    let d = or_parts (eqb r 0) (ltb 16 r) c.0 in
     let round = eqb-false r 0 d.0 in
     let phase = eqb-false p 0 c.1 in
     omega (arith, ltb-false 16 r d.1, ltb-false 2 p b.1, ltb-false 1 s a.1)
@@ -37,9 +37,9 @@ same_as s o e false q r z = absurd (eqb-false s 0 q z)
 in_vote : (s o e d : ℕ) → ltb 2 o || ltb 1 e || ltb 2 d || (eqb s 0 && not (eqb o e)) ≡ false
     → (o < 3) × (e < 2) × (d < 3) × (s ≡ 0 → o ≡ e)
 in_vote s o e d q =
-    let x = neither (ltb 2 o || ltb 1 e || ltb 2 d) (eqb s 0 && not (eqb o e)) q in
-    let y = neither (ltb 2 o || ltb 1 e) (ltb 2 d) x.0 in
-    let z = neither (ltb 2 o) (ltb 1 e) y.0 in
+    let x = or_parts (ltb 2 o || ltb 1 e || ltb 2 d) (eqb s 0 && not (eqb o e)) q in
+    let y = or_parts (ltb 2 o || ltb 1 e) (ltb 2 d) x.0 in
+    let z = or_parts (ltb 2 o) (ltb 1 e) y.0 in
     let low : o < 3 = omega (arith, ltb-false 2 o z.0) in
     let bit : e < 2 = omega (arith, ltb-false 1 e z.1) in
     let none : d < 3 = omega (arith, ltb-false 2 d y.1) in
@@ -48,11 +48,11 @@ in_vote s o e d q =
 -- a record that 13 does not refuse
 pub valid : (h : Host) → bad_host h ≡ false → Valid h
 valid h e =
-    let (pv, s) = neither (bad_place h || bad_vote h) (bad_standing h) e in
-    let (p, v) = neither (bad_place h) (bad_vote h) pv in
+    let (pv, s) = or_parts (bad_place h || bad_vote h) (bad_standing h) e in
+    let (p, v) = or_parts (bad_place h) (bad_vote h) pv in
     let (round_low, round_high, phase_low, phase_high, stage) = in_place h.round h.phase h.stage p in
     let (own, est, decision, same) = in_vote h.stage h.own h.est h.decision v in
-    let (count, place) = neither (ltb 224 h.sent) (ltb 3 h.standing) s in
+    let (count, place) = or_parts (ltb 224 h.sent) (ltb 3 h.standing) s in
     record {
       round_low = round_low;
       round_high = round_high;
@@ -137,7 +137,7 @@ in_64 h p = omega arith
 -- the guards of every call, clear: enough words, a record in range, a world
 pub ready_clear : (words : ℕ) (h : Host) (w : World) → Clear (ready_guards words h w) → (448 ≤ words) × Valid h × Sized w
 ready_clear words h w (r, (n, (t, _))) =
-    let (l, b) = neither (ltb words 448) (bad_host h) r in
+    let (l, b) = or_parts (ltb words 448) (bad_host h) r in
     (ltb-false words 448 l, valid h b, sized w n t)
 
 -- and past them a call has the world's thresholds

@@ -1,10 +1,10 @@
 -- What every call on a host's record and words asks first, and the promises of this crate's calls. Document 01, "Refusal numbers".
-use Rattle.std.specs.Prelude.{ℕ, ◌≡◌, Bool, ◌||◌, List, ◌∷◌, ltb}
-use Rattle.answer.specs.Answer.{Answer, Guard, ◌when◌, guarded}
-use Rattle.quorum.specs.World.{world_guards, thresholds_of, checked_says}
+use Rattle.std.specs.Prelude.{ℕ, ◌≡◌, Bool, ◌||◌, List, ◌∷◌, ltb, Result}
+use Rattle.answer.specs.Answer.{Answer, Guard, ◌when◌, guarded, says}
+use Rattle.answer.specs.declared.Refusal.{Refusal}
+use Rattle.quorum.specs.World.{world_guards, thresholds_of}
 use Rattle.quorum.specs.declared.World.{World}
 use Rattle.quorum.specs.declared.Thresholds.{Thresholds}
-use Rattle.quorum.specs.declared.Checked.{Checked}
 use Rattle.host.specs.Words.{instance}
 use Rattle.host.specs.Record.{bad_host}
 use Rattle.host.specs.declared.Host.{Host}
@@ -21,8 +21,8 @@ abbrev pub Strays : Host → Bool → Type 0
 Strays host answer = answer ≡ bad_host host
 
 -- the promise of `ready`
-abbrev pub Readies : ℕ → Host → World → Checked → Type 0
-Readies words host world answer = checked_says answer ≡ readying words host world
+abbrev pub Readies : ℕ → Host → World → Result Thresholds Refusal → Type 0
+Readies words host world result = says result ≡ readying words host world
 
 -- the promise of `instance`
 abbrev pub Numbers : ℕ → ℕ → ℕ → ℕ → Type 0

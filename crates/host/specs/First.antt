@@ -1,12 +1,12 @@
 -- The first number below n that passes a test.
 use Rattle.std.specs.Prelude.{ℕ, zero, suc, Bool, cond}
-use Rattle.host.specs.declared.Place.{Place}
+use Rattle.std.specs.Prelude.{Option, Some, None}
 
 -- what was found, or else what comes next
-abbrev pub or_else : Place → Place → Place
-or_else (Place.At k) next = Place.At k
-or_else Place.Nowhere next = next
+abbrev pub or_else : Option ℕ → Option ℕ → Option ℕ
+or_else (Some k) next = Some k
+or_else None next = next
 
-unfoldable pub first : (ℕ → Bool) → ℕ → Place
-first p zero = Place.Nowhere
-first p (suc n) = or_else (first p n) (cond (p n) (Place.At n) Place.Nowhere)
+unfoldable pub first : (ℕ → Bool) → ℕ → Option ℕ
+first p zero = None
+first p (suc n) = or_else (first p n) (cond (p n) (Some n) None)

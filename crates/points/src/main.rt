@@ -2,10 +2,9 @@
 // without, and prints what the calls answer. Then numbers and frames that are no world and no frame.
 #![tactic(auto)]
 
-use frame::{Frame, Packed, Unpacked};
+use frame::Frame;
 use host::Host;
-use quorum::Checked;
-use std::io;
+use std::{fmt, io};
 
 fn main(rt: HostRuntime) -> io::Result<()> {
     known_sizes(&rt)?;
@@ -16,120 +15,113 @@ fn main(rt: HostRuntime) -> io::Result<()> {
 }
 
 fn known_sizes(rt: &impl Print) -> io::Result<()> {
-    sizes(rt, 4, 1)?;
-    sizes(rt, 3, 1)?;
-    sizes(rt, 32, 10)?;
-    sizes(rt, 32, 11)?;
-    sizes(rt, 2, 0)?;
-    sizes(rt, 1, 5)
+    for (n, t) in [(4, 1), (3, 1), (32, 10), (32, 11), (2, 0), (1, 5)] {
+        sizes(rt, n, t)?;
+    }
+    Ok(())
 }
 
 fn known_words(rt: &impl Print) -> io::Result<()> {
-    unpack(rt, 0x0220)?;
-    unpack(rt, 0x43c3)?;
-    unpack(rt, 0x2000)?;
-    unpack(rt, 0x2200)?;
-    unpack(rt, 0x0000)?;
-    unpack(rt, 0x0240)?;
-    unpack(rt, 0x0260)?;
-    unpack(rt, 0x02c0)?;
-    unpack(rt, 0x8000)
+    let words = [
+        0x0220, 0x43c3, 0x2000, 0x2200, 0x0000, 0x0240, 0x0260, 0x02c0, 0x8000,
+    ];
+    for word in words {
+        unpack(rt, word)?;
+    }
+    Ok(())
 }
 
 // Phase 2, estimate 0, view {1}, undecided; then the same with the view {1, neither}, {neither} and,
 // as more than t liars could make it, {0, 1}.
 fn known_decision(rt: &impl Print) -> io::Result<()> {
-    view(rt, 2)?;
-    view(rt, 6)?;
-    view(rt, 4)?;
-    view(rt, 3)
+    for values in [2, 6, 4, 3] {
+        view(rt, values)?;
+    }
+    Ok(())
 }
 
 // Both ends of the numbers' type, 2 before 3, and a t whose threefold would wrap.
 fn bad_sizes(rt: &impl Print) -> io::Result<()> {
-    sizes(rt, 0, 0)?;
-    sizes(rt, 33, 0)?;
-    sizes(rt, 33, 11)?;
-    sizes(rt, 32, 1431655766)?;
-    sizes(rt, 32, 4294967295)?;
-    sizes(rt, 4294967295, 4294967295)
+    let bad = [
+        (0, 0),
+        (33, 0),
+        (33, 11),
+        (32, 1431655766),
+        (32, u32::MAX),
+        (u32::MAX, u32::MAX),
+    ];
+    for (n, t) in bad {
+        sizes(rt, n, t)?;
+    }
+    Ok(())
 }
 
 // A frame that packs, then the same with one field that is none, then with several: the order of
 // the refusals.
 fn bad_frames(rt: &impl Print) -> io::Result<()> {
-    pack(rt, 1, 16, 2, 1, 2, 31)?;
-    pack(rt, 1, 0, 2, 1, 2, 31)?;
-    pack(rt, 1, 17, 2, 1, 2, 31)?;
-    pack(rt, 1, 31, 2, 1, 2, 31)?;
-    pack(rt, 1, 16, 2, 1, 3, 31)?;
-    pack(rt, 1, 16, 2, 0, 2, 31)?;
-    pack(rt, 2, 16, 2, 1, 2, 31)?;
-    pack(rt, 1, 16, 0, 1, 2, 31)?;
-    pack(rt, 1, 16, 3, 1, 2, 31)?;
-    pack(rt, 1, 16, 2, 2, 2, 31)?;
-    pack(rt, 1, 16, 2, 1, 2, 32)?;
-    pack(rt, 1, 16, 2, 1, 2, 255)?;
-    pack(rt, 255, 16, 255, 255, 255, 255)?;
-    pack(rt, 255, 255, 255, 255, 255, 255)
+    let good = Frame {
+        kind: 1,
+        round: 16,
+        phase: 2,
+        stage: 1,
+        value: 2,
+        sender: 31,
+    };
+    let all = Frame {
+        kind: 255,
+        round: 16,
+        phase: 255,
+        stage: 255,
+        value: 255,
+        sender: 255,
+    };
+    let frames = [
+        good,
+        Frame { round: 0, ..good },
+        Frame { round: 17, ..good },
+        Frame { round: 31, ..good },
+        Frame { value: 3, ..good },
+        Frame { stage: 0, ..good },
+        Frame { kind: 2, ..good },
+        Frame { phase: 0, ..good },
+        Frame { phase: 3, ..good },
+        Frame { stage: 2, ..good },
+        Frame { sender: 32, ..good },
+        Frame {
+            sender: 255,
+            ..good
+        },
+        all,
+        Frame { round: 255, ..all },
+    ];
+    for frame in frames {
+        pack(rt, frame)?;
+    }
+    Ok(())
 }
 
 fn sizes(rt: &impl Print, n: u32, t: u32) -> io::Result<()> {
-    print(rt, "n ", n)?;
-    print(rt, " t ", t)?;
     match quorum::check(quorum::world_of(n, t)) {
-        Checked::Accepted(at) => {
-            print(rt, ": echo at ", at.echo)?;
-            print(rt, " admit at ", at.admit)?;
-            print(rt, " view at ", at.view)?;
-        }
-        Checked::Refused(number) => {
-            print(rt, ": refused ", number as u32)?;
-        }
+        Ok(at) => println!(rt;
+            "n {n} t {t}: echo at {} admit at {} view at {}",
+            at.echo, at.admit, at.view
+        ),
+        Err(refusal) => println!(rt; "n {n} t {t}: {refusal}"),
     }
-    end_line(rt)
 }
 
 fn unpack(rt: &impl Print, word: u16) -> io::Result<()> {
-    print_word(rt, "", word)?;
     match frame::unpack(word) {
-        Unpacked::Frame(f) => {
-            print_frame(rt, ": ", f)?;
-        }
-        Unpacked::Refused(number) => {
-            print(rt, ": refused ", number as u32)?;
-        }
+        Ok(frame) => println!(rt; "{word:04x}: {}", Fields(frame)),
+        Err(refusal) => println!(rt; "{word:04x}: {refusal}"),
     }
-    end_line(rt)
 }
 
-fn pack(
-    rt: &impl Print,
-    kind: u8,
-    round: u8,
-    phase: u8,
-    stage: u8,
-    value: u8,
-    sender: u8,
-) -> io::Result<()> {
-    let f = Frame {
-        kind,
-        round,
-        phase,
-        stage,
-        value,
-        sender,
-    };
-    print_frame(rt, "", f)?;
-    match frame::pack(f) {
-        Packed::Word(word) => {
-            print_word(rt, ": ", word)?;
-        }
-        Packed::Refused(number) => {
-            print(rt, ": refused ", number as u32)?;
-        }
+fn pack(rt: &impl Print, frame: Frame) -> io::Result<()> {
+    match frame::pack(frame) {
+        Ok(word) => println!(rt; "{}: {word:04x}", Fields(frame)),
+        Err(refusal) => println!(rt; "{}: {refusal}", Fields(frame)),
     }
-    end_line(rt)
 }
 
 fn view(rt: &impl Print, values: u8) -> io::Result<()> {
@@ -139,41 +131,52 @@ fn view(rt: &impl Print, values: u8) -> io::Result<()> {
         stage: 1,
         own: 2,
         est: 0,
-        decision: 2,
+        decision: host::UNDECIDED,
         sent: 2,
-        standing: 0,
+        standing: host::HONEST,
         coins: 0,
     };
     let after = view::after_view(before, values);
-    print(rt, "view ", values as u32)?;
-    print(rt, ": round ", after.round as u32)?;
-    print(rt, " phase ", after.phase as u32)?;
-    print(rt, " stage ", after.stage as u32)?;
-    print(rt, " own ", after.own as u32)?;
-    print(rt, " est ", after.est as u32)?;
-    print(rt, " decision ", after.decision as u32)?;
-    print(rt, " standing ", after.standing as u32)?;
-    end_line(rt)
+    println!(rt; "view {values}: {}", Record(after))
 }
 
-fn print_frame(rt: &impl Print, text: &str, f: Frame) -> io::Result<()> {
-    print!(rt; "{text}")?;
-    print(rt, "kind ", f.kind as u32)?;
-    print(rt, " round ", f.round as u32)?;
-    print(rt, " phase ", f.phase as u32)?;
-    print(rt, " stage ", f.stage as u32)?;
-    print(rt, " value ", f.value as u32)?;
-    print(rt, " sender ", f.sender as u32)
+// A frame's fields by their names.
+#[derive(Clone, Copy, Drop)]
+struct Fields(Frame);
+
+impl fmt::Display for Fields {
+    fn fmt<W: fmt::Write>(&self, f: &mut fmt::Formatter<W>) -> fmt::Result {
+        let frame = self.0;
+        write!(
+            f,
+            "kind {} round {} phase {}",
+            frame.kind, frame.round, frame.phase
+        )?;
+        write!(
+            f,
+            " stage {} value {} sender {}",
+            frame.stage, frame.value, frame.sender
+        )
+    }
 }
 
-fn print_word(rt: &impl Print, text: &str, word: u16) -> io::Result<()> {
-    print!(rt; "{text}{word:04x}")
-}
+// A record's fields by their names, without its coins and its sent count.
+#[derive(Clone, Copy, Drop)]
+struct Record(Host);
 
-fn print(rt: &impl Print, text: &str, number: u32) -> io::Result<()> {
-    print!(rt; "{text}{number}")
-}
-
-fn end_line(rt: &impl Print) -> io::Result<()> {
-    println!(rt)
+impl fmt::Display for Record {
+    fn fmt<W: fmt::Write>(&self, f: &mut fmt::Formatter<W>) -> fmt::Result {
+        let host = self.0;
+        write!(
+            f,
+            "round {} phase {} stage {}",
+            host.round, host.phase, host.stage
+        )?;
+        write!(
+            f,
+            " own {} est {} decision {}",
+            host.own, host.est, host.decision
+        )?;
+        write!(f, " standing {}", host.standing)
+    }
 }

@@ -1,21 +1,20 @@
 -- Who is in a set to which a host was added, in a union, in the empty set and in a set that is not empty, and how many are in a set of hosts
 -- below n, over any width. Assumes nothing.
-use Prim.Native.Nat.{ℕ, zero, suc, ◌+◌, ◌*◌, ◌/◌, ◌%◌, ◌^◌, ◌<◌, max}
+use Prim.Native.Nat.{ℕ, zero, suc, ◌*◌, ◌/◌, ◌%◌, ◌^◌, ◌<◌, max}
 use mathlib.Core.Path.{◌≡◌, refl, sym, ap, ◌∙◌}
 use mathlib.Core.Bool.{Bool, true, false, ◌||◌, or-true, or-false}
-use native.Mathlib.Nat.{zero-div, one-mul, pow-suc}
+use native.Mathlib.Nat.{pow-suc}
 use native.Mathlib.Decide.{ℕ_discrete}
 use native.Mathlib.Omega.{arith}
-use lib.Bits.{bit_or, or_step, or_shr}
-use lib.Dec.{lit<, eqb}
-use lib.Pow.{shl_exact}
+use lib.Bits.{bit_or}
+use lib.Dec.{eqb}
 use borrow.Author.Tests.{eqb-false}
+use Rattle.std.specs.Int.{bit_at}
+use Rattle.std.proofs.lemmas.Nat.{one_shl}
+use Rattle.std.proofs.lemmas.Nat.Bits.{bit_at_or, bit_at-zero, bit_at-lt, bit_at-pow_same, bit_at-pow_other}
 use Rattle.quorum.specs.Count.{count}
 use Rattle.quorum.specs.Sets.{member, size, add, union}
 use Rattle.quorum.proofs.Members.{member_suc, size_counts}
-
-digit : (x y a b : ℕ) → x ≡ y * 2 + max (a % 2) (b % 2) → x % 2 ≡ max (a % 2) (b % 2)
-digit x y a b e = omega arith
 
 digits : (a b : ℕ) → a < 2 → b < 2 → eqb (max a b) 1 ≡ eqb a 1 || eqb b 1
 digits zero zero p q = refl
@@ -29,33 +28,20 @@ digits (suc (suc a)) b p q = absurd (omega arith)
 -- in a union is who is in one of the two
 pub member_union : (a b j : ℕ) → member (union a b) j ≡ member a j || member b j
 unfolding member
-member_union a b j =
-    rw or_shr (rw (digit _ _ _ _ (or_step (a / 2 ^ j) (b / 2 ^ j))) (digits (a / 2 ^ j % 2) (b / 2 ^ j % 2) (omega arith) (omega arith)))
+member_union a b j = rw (bit_at_or a b j) (digits (bit_at a j) (bit_at b j) (bit_at-lt a j) (bit_at-lt b j))
 
 -- nobody is in the empty set
 pub member_none : (j : ℕ) → member 0 j ≡ false
 unfolding member
-member_none j = rw zero-div refl
-
-half_pow : (i : ℕ) → 2 ^ suc i / 2 ≡ 2 ^ i
-half_pow i = rw pow-suc (omega arith)
+member_none j = rw (bit_at-zero j) refl
 
 only_same : (j : ℕ) → member (2 ^ j) j ≡ true
 unfolding member
-only_same zero = refl
-only_same (suc j) = sym (member_suc (2 ^ suc j) j) ∙ rw half_pow (only_same j)
-
-even : (i : ℕ) → member (2 ^ suc i) 0 ≡ false
-unfolding member
-even i =
-    let z : 2 ^ suc i / 1 % 2 ≡ 0 = rw pow-suc (omega arith) in
-    ap (λ (x : ℕ). eqb x 1) z
+only_same j = rw (bit_at-pow_same j) refl
 
 only_other : (i j : ℕ) → (i ≡ j → ⊥) → member (2 ^ i) j ≡ false
-only_other zero zero h = absurd (h refl)
-only_other zero (suc j) h = sym (member_suc 1 j) ∙ member_none j
-only_other (suc i) zero h = even i
-only_other (suc i) (suc j) h = sym (member_suc (2 ^ suc i) j) ∙ rw half_pow (only_other i j (λ e. h (ap suc e)))
+unfolding member
+only_other i j h = rw (bit_at-pow_other i j (λ e. h (sym e))) refl
 
 -- who was added is in, and of all others nothing changed
 pub added : (set j : ℕ) → member (add set j) j ≡ true
@@ -106,4 +92,4 @@ members_count n w f = size_counts n w (members_below n w f)
 -- `w | 1 << j` in a machine's word of `width` bits
 pub or_shl : (width j : ℕ) → j < width → (w : ℕ) → bit_or w (1 * 2 ^ j % 2 ^ width) ≡ add w j
 unfolding add
-or_shl width j l w = ap (bit_or w) (shl_exact 1 j width (lit< tt) (omega arith) ∙ one-mul (2 ^ j))
+or_shl width j l w = ap (bit_or w) (one_shl j width l)

@@ -4,7 +4,7 @@ use Prim.Native.Nat.{ℕ, ◌+◌, ◌*◌, ◌≤◌, ◌<◌}
 use mathlib.Core.Path.{◌≡◌}
 use mathlib.Core.Bool.{Bool, true, not, ◌&&◌}
 use native.Mathlib.Omega.{arith}
-use Rattle.answer.proofs.Tests.{both}
+use Rattle.std.proofs.lemmas.Bool.{and_parts}
 use Rattle.quorum.specs.Count.{count}
 use Rattle.quorum.proofs.Counting.{count_and, count_not, count_some}
 
@@ -17,7 +17,7 @@ module _ (n t : ℕ) (honest : ℕ → Bool) (few : count n (λ x. not (honest x
   pub one_honest : (p : ℕ → Bool) → t < count n p → (x : ℕ) × (x < n) × (p x ≡ true) × (honest x ≡ true)
   one_honest p h =
       let (x, l, e) = count_some n (λ x. p x && honest x) (omega (arith, few_lie p)) in
-      let (a, b) = both (p x) (honest x) e in
+      let (a, b) = and_parts (p x) (honest x) e in
       (x, l, a, b)
 
   -- two sets of at least n−t each share an honest host
@@ -25,5 +25,5 @@ module _ (n t : ℕ) (honest : ℕ → Bool) (few : count n (λ x. not (honest x
       → (x : ℕ) × (x < n) × (p x ≡ true) × (q x ≡ true) × (honest x ≡ true)
   shared_honest big p q hp hq =
       let (x, l, e, g) = one_honest (λ x. p x && q x) (omega (arith, count_and n p q)) in
-      let (a, b) = both (p x) (q x) e in
+      let (a, b) = and_parts (p x) (q x) e in
       (x, l, a, b, g)

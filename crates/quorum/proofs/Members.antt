@@ -2,13 +2,12 @@
 use Prim.Native.Nat.{ℕ, zero, suc, ◌+◌, ◌/◌, ◌%◌, ◌^◌, ◌≤◌, ◌<◌}
 use mathlib.Core.Path.{◌≡◌, refl, ap, ap₂, ◌∙◌}
 use mathlib.Core.Bool.{false}
-use native.Mathlib.Nat.{pow-suc, div-eq_of_lt, lt_of_lt_of_le}
-use native.Mathlib.Numerals.{one-add}
+use native.Mathlib.Nat.{pow-suc}
 use native.Mathlib.Omega.{arith}
 use lib.Arith.{lt-one}
 use lib.Count.{ones, ones_step}
 use lib.Dec.{eqb}
-use lib.Pow.{shr-shr, pow_mono}
+use Rattle.std.proofs.lemmas.Nat.Bits.{bit_at-suc, bit_at_above}
 use Rattle.quorum.specs.Count.{one, count}
 use Rattle.quorum.specs.Sets.{member, size}
 use Rattle.quorum.proofs.Counting.{count_same}
@@ -16,7 +15,7 @@ use Rattle.quorum.proofs.Counting.{count_same}
 -- the members but host 0 are those of the halved word, each a number lower
 pub member_suc : (w j : ℕ) → member (w / 2) j ≡ member w (suc j)
 unfolding member
-member_suc w j = rw (shr-shr w 1 j, one-add j)
+member_suc w j = rw (bit_at-suc w j) refl
 
 bit : (x : ℕ) → x < 2 → x ≡ one (eqb x 1)
 bit zero h = refl
@@ -44,4 +43,4 @@ size_counts (suc n) w h =
 -- a word has no member past its last bit
 pub no_member : (n w j : ℕ) → w < 2 ^ n → n ≤ j → false ≡ member w j
 unfolding member
-no_member n w j l m = rw (div-eq_of_lt (lt_of_lt_of_le l (pow_mono m)))
+no_member n w j l m = rw (bit_at_above w n j l m) refl

@@ -7,7 +7,7 @@ use lib.Dec.{ltb}
 use borrow.Author.Tests.{ltb-false, leb-false}
 use Rattle.answer.specs.Answer.{accepted}
 use Rattle.answer.proofs.Guards.{clear}
-use Rattle.answer.proofs.Tests.{neither}
+use Rattle.std.proofs.lemmas.Bool.{or_parts}
 use Rattle.quorum.specs.World.{echo_at, admit_at, view_at, thresholds_of, bad_hosts, bad_liars, world_guards, checking}
 use Rattle.quorum.specs.declared.World.{World}
 use Rattle.quorum.specs.declared.Thresholds.{Thresholds}
@@ -20,7 +20,7 @@ pub record Sized (w : World) : Type 0 where
 
 pub sized : (w : World) → bad_hosts w ≡ false → bad_liars w ≡ false → Sized w
 sized w h l =
-    let (a, b) = neither (ltb w.n 2) (ltb 32 w.n) h in
+    let (a, b) = or_parts (ltb w.n 2) (ltb 32 w.n) h in
     record { some = ltb-false _ _ a; most = ltb-false _ _ b; big = leb-false _ _ l }
 
 pub accepted_sized : (w : World) (s : Thresholds) → checking w ≡ accepted s → Sized w

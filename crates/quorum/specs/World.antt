@@ -1,10 +1,10 @@
 -- The world of a vote, its check and its thresholds. Document 01, "The piece and its edges" (sizes), "What a host does" (the thresholds)
 -- and "Refusal numbers" (2 and 3).
-use Rattle.std.specs.Prelude.{ℕ, ◌+◌, ◌-◌, ◌*◌, ◌≡◌, Bool, ◌||◌, List, [], ◌∷◌, ltb, leb}
-use Rattle.answer.specs.Answer.{Answer, refused, accepted, Guard, ◌when◌, guarded}
+use Rattle.std.specs.Prelude.{ℕ, ◌+◌, ◌-◌, ◌*◌, ◌≡◌, Bool, ◌||◌, List, [], ◌∷◌, ltb, leb, Result}
+use Rattle.answer.specs.Answer.{Answer, Guard, ◌when◌, guarded, says}
+use Rattle.answer.specs.declared.Refusal.{Refusal}
 use Rattle.quorum.specs.declared.World.{World}
 use Rattle.quorum.specs.declared.Thresholds.{Thresholds}
-use Rattle.quorum.specs.declared.Checked.{Checked}
 
 -- "n hosts, 2 to 32, numbered from 0; t with n above 3t": any two numbers make a world, and the check refuses what is no such world
 abbrev pub world_of : ℕ → ℕ → World
@@ -40,15 +40,10 @@ world_guards w = (2 when bad_hosts w) ∷ (3 when bad_liars w) ∷ []
 unfoldable pub checking : World → Answer Thresholds
 checking w = guarded (world_guards w) (thresholds_of w)
 
--- document 01's number and values, for every case of the enum
-abbrev pub checked_says : Checked → Answer Thresholds
-checked_says (Checked.Accepted s) = accepted s
-checked_says (Checked.Refused k) = refused k
-
 -- the promise of `world_of`
 abbrev pub Makes : ℕ → ℕ → World → Type 0
 Makes n t world = world ≡ world_of n t
 
 -- the promise of `check`
-abbrev pub Checks : World → Checked → Type 0
-Checks world answer = checked_says answer ≡ checking world
+abbrev pub Checks : World → Result Thresholds Refusal → Type 0
+Checks world result = says result ≡ checking world

@@ -6,26 +6,22 @@ ghost use Rattle.std.specs.Prelude.{◌*◌, ◌≤◌, ◌<◌, ◌≡◌};
 ghost use Rattle.quorum.specs.Sets.{Has};
 ghost use Rattle.quorum.specs.World.{Makes, Checks, bad_hosts, bad_liars, thresholds_of};
 
+use answer::Refusal;
+
 // n hosts, numbered from 0, of which up to t may lie. It goes by value to every call that asks for it.
 #[repr(C)]
-#[derive(Clone, Copy, Drop)]
+#[derive(Clone, Copy, Debug, PartialEq, Eq, Drop)]
 pub struct World {
     pub n: u32,
     pub t: u32,
 }
 
 // From how many senders on a value is echoed, a value is admitted, and a view is complete.
-#[derive(Clone, Copy, Drop)]
+#[derive(Clone, Copy, Debug, PartialEq, Eq, Drop)]
 pub struct Thresholds {
     pub echo: u32,
     pub admit: u32,
     pub view: u32,
-}
-
-#[derive(Clone, Copy, Drop)]
-pub enum Checked {
-    Accepted(Thresholds),
-    Refused(u8),
 }
 
 // The one place where a world is made; `check` says whether a vote can be held in it.
@@ -37,32 +33,30 @@ pub fn world_of(n: u32, t: u32) -> World
 
 // The thresholds of a world: refusals 2, 3.
 #[tactic(auto, unfolding(crate::specs::World::checking))]
-pub fn check(world: World) -> Checked
+pub fn check(world: World) -> Result<Thresholds, Refusal>
     ensures { Checks world result }
 {
-    let hosts = bad_hosts(world);
-    let liars = bad_liars(world);
-    if hosts {
-        return Checked::Refused(2);
+    if bad_hosts(world) {
+        return Err(Refusal::Hosts);
     }
-    if liars {
-        return Checked::Refused(3);
+    if bad_liars(world) {
+        return Err(Refusal::Liars);
     }
-    Checked::Accepted(thresholds_of(world))
+    Ok(thresholds_of(world))
 }
 
 // 2: too few hosts or too many.
 fn bad_hosts(world: World) -> bool
     ensures { result ≡ bad_hosts world }
 {
-    (world.n < 2) | (32 < world.n)
+    world.n < 2 || 32 < world.n
 }
 
 // 3: too many liars for so few hosts. Three times the largest t does not fit t's own type.
 fn bad_liars(world: World) -> bool
     ensures { result ≡ bad_liars world }
 {
-    (world.n as u64) <= 3 * (world.t as u64)
+    u64::from(world.n) <= 3 * u64::from(world.t)
 }
 
 fn thresholds_of(world: World) -> Thresholds
@@ -80,8 +74,5 @@ fn thresholds_of(world: World) -> Thresholds
 pub fn has(set: u32, j: usize) -> bool
     ensures { Has set j result }
 {
-    if 32 <= j {
-        return false;
-    }
-    set >> j & 1 == 1
+    j < 32 && set >> j & 1 == 1
 }

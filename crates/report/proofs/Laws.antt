@@ -4,11 +4,11 @@ use mathlib.Core.Path.{◌≡◌, refl, sym, ◌∙◌}
 use mathlib.Core.List.{List, [], ◌∷◌, ◌++◌}
 use native.Mathlib.Decide.{dec_lt}
 use native.Mathlib.Omega.{arith}
-use lib.ListN.{length, get_or, get_or-append}
+use lib.ListN.{length, length-append, get_or, get_or-append}
 use Rattle.host.specs.declared.Host.{Host}
 use Rattle.report.specs.Text.{text, digit, digits_in, decimal}
 use Rattle.report.specs.Lines.{event_line, totals_line, host_line}
-use Rattle.report.proofs.Digits.{decimal_one, decimal_more, length_one, length_more, few}
+use Rattle.report.proofs.Digits.{decimal_one, decimal_more}
 
 -- ---- Document 01's example, line by line
 pub printed_event : event_line 5 11 ≡ text "event 5 refused 11\n"
@@ -65,16 +65,13 @@ value_go (suc k) n l = go (dec_lt n 10) (λ h. value_go k (n / 10) h)
 pub decimal_value : (n : ℕ) → value 0 (decimal n) ≡ n
 decimal_value n = value_go (suc n) n (omega arith)
 
--- it has at least one digit, and one of 32 bits at most ten
+-- it has at least one digit
 pub some_digit : (n : ℕ) → 0 < length (decimal n)
 some_digit n = go (dec_lt n 10)
   where
     go : Dec (n < 10) → 0 < length (decimal n)
-    go (yes s) = omega (arith, length_one n s)
-    go (no g) = omega (arith, length_more n (omega arith))
-
-pub ten_digits : (n : ℕ) → n < 4294967296 → length (decimal n) ≤ 10
-ten_digits n l = few 9 n (omega arith)
+    go (yes s) = rw (decimal_one n s) (omega arith)
+    go (no g) = rw (decimal_more n (omega arith), length-append (decimal (n / 10)) (digit (n % 10) ∷ [])) (omega arith)
 
 zero_go : (k n : ℕ) → n < k → get_or (decimal n) 0 0 ≡ digit 0 → n ≡ 0
 zero_go zero n l e = absurd (omega arith)

@@ -1,6 +1,6 @@
 pub mod Digits
-pub mod Puts
-pub mod Pattern
+pub mod Lengths
+pub mod Adding
 pub mod Lines
 pub mod Written
 pub mod Laws

@@ -1,12 +1,12 @@
 -- The lines that are printed, and the calls that write them. Document 01, "What the program prints" and "Refusal numbers".
-use Rattle.std.specs.Prelude.{ℕ, ◌≡◌, Bool, cond, ◌||◌, List, [], ◌∷◌, ◌++◌, ltb, leb, eqb, length, drop}
-use Rattle.answer.specs.Answer.{Answer, refused, accepted, Guard, ◌when◌, guarded, lent}
+use Rattle.std.specs.Prelude.{ℕ, ◌≡◌, Bool, cond, ◌||◌, List, [], ◌∷◌, ◌++◌, ltb, leb, eqb, length, drop, Result}
+use Rattle.answer.specs.Answer.{Answer, Guard, ◌when◌, guarded, lent, says}
+use Rattle.answer.specs.declared.Refusal.{Refusal}
 use Rattle.quorum.specs.World.{world_guards}
 use Rattle.quorum.specs.declared.World.{World}
 use Rattle.host.specs.Record.{finished, broken, lying, bad_host}
 use Rattle.host.specs.declared.Host.{Host}
 use Rattle.report.specs.Text.{text, decimal}
-use Rattle.report.specs.declared.Line.{Line}
 
 -- ---- The four lines, each with its newline
 
@@ -59,29 +59,24 @@ host_guards before me h w = (13 when short before || bad_host h) ∷ world_guard
 unfoldable pub writing : List ℕ → List Guard → List ℕ → Answer ℕ × List ℕ
 writing before guards line = lent before (guarded guards (length line, line ++ drop (length line) before))
 
--- document 01's number and values, for every case of the enum
-abbrev pub line_says : Line → Answer ℕ
-line_says (Line.Written bytes) = accepted bytes
-line_says (Line.Refused k) = refused k
-
 -- ---- Promises
 
 -- the promise of `refusal_line`
-abbrev pub WritesRefusal : List ℕ → ℕ → Line → List ℕ → Type 0
+abbrev pub WritesRefusal : List ℕ → ℕ → Result ℕ Refusal → List ℕ → Type 0
 WritesRefusal before number answer after =
-    ◌≡◌ {A = Answer ℕ × List ℕ} (line_says answer, after) (writing before (room_guards before) (refusal_line number))
+    ◌≡◌ {A = Answer ℕ × List ℕ} (says answer, after) (writing before (room_guards before) (refusal_line number))
 
 -- the promise of `event_line`
-abbrev pub WritesEvent : List ℕ → ℕ → ℕ → Line → List ℕ → Type 0
+abbrev pub WritesEvent : List ℕ → ℕ → ℕ → Result ℕ Refusal → List ℕ → Type 0
 WritesEvent before event number answer after =
-    ◌≡◌ {A = Answer ℕ × List ℕ} (line_says answer, after) (writing before (room_guards before) (event_line event number))
+    ◌≡◌ {A = Answer ℕ × List ℕ} (says answer, after) (writing before (room_guards before) (event_line event number))
 
 -- the promise of `host_line`
-abbrev pub WritesHost : List ℕ → ℕ → Host → World → Line → List ℕ → Type 0
+abbrev pub WritesHost : List ℕ → ℕ → Host → World → Result ℕ Refusal → List ℕ → Type 0
 WritesHost before me host world answer after =
-    ◌≡◌ {A = Answer ℕ × List ℕ} (line_says answer, after) (writing before (host_guards before me host world) (host_line me host))
+    ◌≡◌ {A = Answer ℕ × List ℕ} (says answer, after) (writing before (host_guards before me host world) (host_line me host))
 
 -- the promise of `totals_line`
-abbrev pub WritesTotals : List ℕ → ℕ → ℕ → Line → List ℕ → Type 0
+abbrev pub WritesTotals : List ℕ → ℕ → ℕ → Result ℕ Refusal → List ℕ → Type 0
 WritesTotals before events refusals answer after =
-    ◌≡◌ {A = Answer ℕ × List ℕ} (line_says answer, after) (writing before (room_guards before) (totals_line events refusals))
+    ◌≡◌ {A = Answer ℕ × List ℕ} (says answer, after) (writing before (room_guards before) (totals_line events refusals))

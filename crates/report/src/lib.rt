@@ -7,116 +7,128 @@
 
 mod put;
 
-ghost use Rattle.std.specs.Prelude.{◌≤◌, ◌≡◌, length};
-ghost use Rattle.report.specs.Lines.{WritesRefusal, WritesEvent, WritesHost, WritesTotals};
-ghost use Rattle.report.specs.Parts.{holes, filled, two, WritesTwo, numbers_of, host_pattern, Puts};
+ghost use Rattle.std.specs.Prelude.{◌+◌, ◌≤◌, ◌<◌, ◌≡◌, length};
+ghost use Rattle.report.specs.Parts.{Adds};
+ghost use Rattle.report.specs.Lines.{host_line, standing_word, decision_word, WritesRefusal, WritesEvent, WritesHost, WritesTotals};
 
+use answer::Refusal;
 use host::Host;
-use quorum::{Checked, World};
-
-// The length of the line that stands at the start of the bytes, or a refusal.
-#[derive(Clone, Copy, Drop)]
-pub enum Line {
-    Written(usize),
-    Refused(u8),
-}
+use put::Line;
+use quorum::World;
 
 // A call that is lent fewer bytes is refused. The longest line has 67.
+// Kept: the test for it in each call, since it is the first of the call's own refusals.
 const ROOM: usize = 80;
 
 // "refused C": refusal 13.
-pub fn refusal_line(out: &mut [u8], number: u8) -> Line
+// Kept: here and in the next call a refusal by its number, since both promise a line for every number,
+// and C passes any.
+#[tactic(auto, using(crate::proofs::Digits::three_digits), unfolding(crate::specs::Lines::writing))]
+pub fn refusal_line(out: &mut [u8], number: u8) -> Result<usize, Refusal>
     ensures { WritesRefusal out.old number result out.new }
 {
-    write(out, b"refused #\n", number as u32, 0)
+    if out.len() < ROOM {
+        return Err(Refusal::Lent);
+    }
+    let mut line = Line { out, length: 0 };
+    line.field(b"refused ", number as u32);
+    line.text(b"\n");
+    Ok(line.length)
 }
 
 // "event K refused C", where the first event is 1: refusal 13.
-pub fn event_line(out: &mut [u8], event: u32, number: u8) -> Line
+#[tactic(auto, using(crate::proofs::Digits::ten_digits, crate::proofs::Digits::three_digits), unfolding(crate::specs::Lines::writing))]
+pub fn event_line(out: &mut [u8], event: u32, number: u8) -> Result<usize, Refusal>
     ensures { WritesEvent out.old event number result out.new }
 {
-    write(out, b"event # refused #\n", event, number as u32)
-}
-
-// "host I lying", or the host's number, its standing and the rest of its record: refusals 13, 2, 3, 5.
-#[tactic(auto, unfolding(crate::specs::Lines::writing))]
-pub fn host_line(out: &mut [u8], me: u32, host: Host, world: World) -> Line
-    ensures { WritesHost out.old me host world result out.new }
-{
-    let bad = host::out_of_range(host);
-    if (out.len() < ROOM) | bad {
-        return Line::Refused(13);
+    if out.len() < ROOM {
+        return Err(Refusal::Lent);
     }
-    let checked = quorum::check(world);
-    if let Checked::Refused(number) = checked {
-        return Line::Refused(number);
-    }
-    if world.n <= me {
-        return Line::Refused(5);
-    }
-    Line::Written(put_host(out, host.standing, numbers_of(me, host)))
+    let mut line = Line { out, length: 0 };
+    line.field(b"event ", event);
+    line.field(b" refused ", number as u32);
+    line.text(b"\n");
+    Ok(line.length)
 }
 
 // "events K refused M": refusal 13.
-pub fn totals_line(out: &mut [u8], events: u32, refused: u32) -> Line
+#[tactic(auto, using(crate::proofs::Digits::ten_digits), unfolding(crate::specs::Lines::writing))]
+pub fn totals_line(out: &mut [u8], events: u32, refused: u32) -> Result<usize, Refusal>
     ensures { WritesTotals out.old events refused result out.new }
 {
-    write(out, b"events # refused #\n", events, refused)
-}
-
-// A line of at most two numbers.
-#[tactic(auto, unfolding(crate::specs::Lines::writing))]
-fn write(out: &mut [u8], text: &[u8], first: u32, second: u32) -> Line
-    requires { (holes text.now ≤ 7) × (length (filled text.now 0 (two first second)) ≤ 80) }
-    ensures { WritesTwo out.old text.now first second result out.new }
-{
     if out.len() < ROOM {
-        return Line::Refused(13);
+        return Err(Refusal::Lent);
     }
-    Line::Written(put::pattern(out, text, [first, second, 0, 0, 0, 0, 0]))
+    let mut line = Line { out, length: 0 };
+    line.field(b"events ", events);
+    line.field(b" refused ", refused);
+    line.text(b"\n");
+    Ok(line.length)
 }
 
-// The numbers of a host's line, in their order.
-fn numbers_of(me: u32, host: Host) -> [u32; 7]
-    ensures { result ≡ numbers_of me host }
+// "host I lying", or the host's number, its standing and the rest of its record: refusals 13, 2, 3, 5.
+#[tactic(auto, unfolding(crate::specs::Lines::writing, quorum::specs::World::checking))]
+pub fn host_line(out: &mut [u8], me: u32, host: Host, world: World) -> Result<usize, Refusal>
+    ensures { WritesHost out.old me host world result out.new }
 {
-    [
-        me,
-        host.round as u32,
-        host.phase as u32,
-        host.stage as u32,
-        host.est as u32,
-        host.decision as u32,
-        host.sent as u32,
-    ]
+    if out.len() < ROOM || host::out_of_range(host) {
+        return Err(Refusal::Lent);
+    }
+    quorum::check(world)?;
+    if world.n <= me {
+        return Err(Refusal::Unnamed);
+    }
+    let mut line = Line { out, length: 0 };
+    put_host(&mut line, me, host);
+    Ok(line.length)
 }
 
-// The line of a host with this standing.
-#[tactic(auto, unfolding(crate::specs::Text::text, crate::specs::Parts::host_pattern))]
-fn put_host(out: &mut [u8], standing: u8, numbers: [u32; 7]) -> usize
-    requires { length (filled (host_pattern standing) 0 numbers) ≤ length out.old }
-    ensures { Puts 0 out.old (filled (host_pattern standing) 0 numbers) result out.new }
+// The line of a host; of one that lies it ends at "lying".
+#[tactic(auto, using(crate::proofs::Digits::two_digits, crate::proofs::Digits::three_digits), unfolding(crate::specs::Text::text))]
+fn put_host(line: &mut Line, me: u32, host: Host)
+    requires { (me < 32) × (line.old.length + 80 ≤ length line.old.out.now) }
+    ensures { Adds line.old (host_line me host) line.new }
 {
-    if standing == 3 {
-        return put::pattern(out, b"host # lying\n", numbers);
+    line.field(b"host ", me);
+    line.text(b" ");
+    if host.standing == host::LYING {
+        line.text(b"lying\n");
+        return;
     }
-    if standing == 1 {
-        return put::pattern(
-            out,
-            b"host # finished round # phase # stage # est # decided @ sent #\n",
-            numbers,
-        );
+    line.text(standing_word(host));
+    line.field(b" round ", host.round as u32);
+    line.field(b" phase ", host.phase as u32);
+    line.field(b" stage ", host.stage as u32);
+    line.field(b" est ", host.est as u32);
+    line.text(b" decided ");
+    put_decision(line, host);
+    line.field(b" sent ", host.sent as u32);
+    line.text(b"\n");
+}
+
+// The standing of a host that does not lie.
+#[tactic(auto, unfolding(crate::specs::Text::text))]
+fn standing_word(host: Host) -> &'static [u8]
+    ensures word { result.now ≡ standing_word host }
+    ensures short { length result.now ≤ 8 }
+{
+    match host.standing {
+        host::FINISHED => b"finished",
+        host::BROKEN => b"broken",
+        _ => b"honest",
     }
-    if standing == 2 {
-        return put::pattern(
-            out,
-            b"host # broken round # phase # stage # est # decided @ sent #\n",
-            numbers,
-        );
+}
+
+// A host's decision, or "-" for a 2, which is none.
+#[tactic(auto, using(crate::proofs::Digits::three_digits), unfolding(crate::specs::Text::text))]
+fn put_decision(line: &mut Line, host: Host)
+    requires { line.old.length + 3 ≤ length line.old.out.now }
+    ensures adds { Adds line.old (decision_word host) line.new }
+    ensures short { line.new.length ≤ line.old.length + 3 }
+{
+    if host.decision == host::UNDECIDED {
+        line.text(b"-");
+        return;
     }
-    put::pattern(
-        out,
-        b"host # honest round # phase # stage # est # decided @ sent #\n",
-        numbers,
-    )
+    line.number(host.decision as u32);
 }

@@ -1,63 +1,47 @@
-// Bytes put into lent bytes. `at` is where the first one goes, and each call answers where the next
-// one goes.
-ghost use Rattle.std.specs.Prelude.{◌+◌, ◌<◌, ◌≤◌, [], ◌∷◌, length};
+// A line, put together in lent bytes.
+//
+// Kept: not `write!`, since the contract of `fmt::Write` never says when a write succeeds, and a line is
+// promised wherever there is room for it.
+ghost use Rattle.std.specs.Prelude.{◌+◌, ◌≤◌, ◌++◌, length};
 ghost use Rattle.report.specs.Text.{decimal};
-ghost use Rattle.report.specs.Text.{digit};
-ghost use Rattle.report.specs.Parts.{or_dash, holes, filled, Puts};
+ghost use Rattle.report.specs.Parts.{Adds};
 
-// One digit.
-#[tactic(auto, unfolding(crate::specs::Parts::put))]
-fn digit(out: &mut [u8], at: usize, d: u32) -> usize
-    requires { (d < 10) × (at < length out.old) }
-    ensures { Puts at out.old (digit d ∷ []) result out.new }
-{
-    out[at] = 48 + d as u8;
-    at + 1
+use itoa::Buffer;
+
+// The bytes, and how many of them are the line so far.
+// Kept: lent bytes with a length beside them, since the library has no heap.
+#[derive(Drop)]
+pub(crate) struct Line<'a> {
+    pub(crate) out: &'a mut [u8],
+    pub(crate) length: usize,
 }
 
-// A number in decimal: its higher digits, then the last.
-fn number(out: &mut [u8], at: usize, n: u32) -> usize
-    requires { at + length (decimal n) ≤ length out.old }
-    ensures { Puts at out.old (decimal n) result out.new }
-{
-    if n < 10 {
-        return digit(out, at, n);
+// Kept: room as a clause of each part, since each needs another.
+impl Line<'_> {
+    #[tactic(auto, using(std::proofs::lemmas::Slice::overwrites))]
+    pub(crate) fn text(&mut self, text: &[u8])
+        requires { self.old.length + length text.now ≤ length self.old.out.now }
+        ensures { Adds self.old text.now self.new }
+    {
+        let end = self.length + text.len();
+        self.out[self.length..end].copy_from_slice(text);
+        self.length = end;
     }
-    let last = number(out, at, n / 10);
-    digit(out, last, n % 10)
-}
 
-// A number, or "-" for a 2 where that says that there is none.
-#[tactic(auto, unfolding(crate::specs::Text::text, crate::specs::Parts::put))]
-fn field(out: &mut [u8], at: usize, dash: bool, n: u32) -> usize
-    requires { at + length (or_dash dash n) ≤ length out.old }
-    ensures { Puts at out.old (or_dash dash n) result out.new }
-{
-    if dash & (n == 2) {
-        out[at] = b'-';
-        return at + 1;
+    #[tactic(auto, using(crate::proofs::Digits::printed))]
+    pub(crate) fn number(&mut self, n: u32)
+        requires { self.old.length + length (decimal n) ≤ length self.old.out.now }
+        ensures { Adds self.old (decimal n) self.new }
+    {
+        self.text(Buffer::new().format(n).as_bytes());
     }
-    number(out, at, n)
-}
 
-// A text in which each '#' stands for the next of the numbers, and a '@' for the next of them or for
-// "-". It goes to the start.
-pub(crate) fn pattern(out: &mut [u8], text: &[u8], numbers: [u32; 7]) -> usize
-    requires enough_numbers { holes text.now ≤ 7 }
-    requires enough_room { length (filled text.now 0 numbers) ≤ length out.old }
-    ensures { Puts 0 out.old (filled text.now 0 numbers) result out.new }
-{
-    let mut next = 0;
-    let mut used = 0;
-    for k in 0..text.len() {
-        let byte = text[k];
-        if (byte == b'#') | (byte == b'@') {
-            next = field(out, next, byte == b'@', numbers[used]);
-            used += 1;
-            continue;
-        }
-        out[next] = byte;
-        next += 1;
+    // A number with its name before it.
+    pub(crate) fn field(&mut self, name: &[u8], n: u32)
+        requires { self.old.length + length name.now + length (decimal n) ≤ length self.old.out.now }
+        ensures { Adds self.old (name.now ++ decimal n) self.new }
+    {
+        self.text(name);
+        self.number(n);
     }
-    next
 }

@@ -1,5 +1,5 @@
--- How the loop of `enrol` reads the records one by one, and how the header comes before them. Assumes nothing.
-use Prim.Native.Nat.{ℕ, zero, suc, ◌+◌, ◌-◌, ◌≤◌, ◌<◌}
+-- How the loop of `enrol` reads the records one by one. Assumes nothing.
+use Prim.Native.Nat.{ℕ, zero, suc, ◌+◌, ◌-◌, ◌<◌}
 use mathlib.Core.Path.{◌≡◌, refl, ◌∙◌}
 use mathlib.Core.List.{List}
 use native.Mathlib.Nat.{add-zero, add-suc}
@@ -7,12 +7,10 @@ use native.Mathlib.Omega.{arith}
 use lib.ListN.{set}
 use Rattle.answer.specs.Answer.{Answer, refused, accepted, past, guarded}
 use Rattle.answer.proofs.Guards.{clear, lets, refuses, stops, goes_on}
-use Rattle.quorum.specs.declared.World.{World}
-use Rattle.quorum.proofs.Reached.{sized}
 use Rattle.host.specs.declared.Host.{Host}
 use Rattle.file.specs.Layouts.{three_at, first_host}
-use Rattle.file.specs.Reading.{header_guards, record_guards, heading, enrolling}
-use Rattle.run.specs.Starting.{record_place, enrolled, records_guards, world_in, first_run, starting}
+use Rattle.file.specs.Reading.{record_guards, enrolling}
+use Rattle.run.specs.Starting.{record_place, enrolled, records_guards}
 
 -- the first k records are accepted
 abbrev pub Read : List ℕ → ℕ → Type 0
@@ -60,17 +58,3 @@ module _ (bytes : List ℕ) where
 
   pub records_pass : (n : ℕ) {A : Type 0} (x : Answer A) → Read bytes n → past (records_guards bytes n) x ≡ x
   records_pass n x r = lets (records_guards bytes n) tt x r
-
-  -- ---- The header first
-
-  pub header_stops : {k : ℕ} → heading bytes ≡ refused k → starting bytes ≡ refused k
-  unfolding heading starting
-  header_stops e = stops (header_guards bytes) (records_guards bytes (world_in bytes).n) (world_in bytes) (accepted (first_run bytes (world_in bytes))) e
-
-  pub header_passes : (w : World) → heading bytes ≡ accepted w
-      → (w.n ≤ 32) × (starting bytes ≡ past (records_guards bytes w.n) (accepted (first_run bytes w)))
-  unfolding heading starting
-  header_passes w e =
-      let ((_, (n, (t, _))), same) = clear (header_guards bytes) (world_in bytes) e in
-      let z = sized (world_in bytes) n t in
-      rw same (z.most, goes_on (header_guards bytes) (records_guards bytes (world_in bytes).n) (world_in bytes) (accepted (first_run bytes (world_in bytes))) e)

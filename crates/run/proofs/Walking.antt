@@ -6,26 +6,21 @@ use native.Mathlib.Omega.{arith}
 use native.Mathlib.Nat.{add-zero, add_assoc}
 use borrow.Author.Tests.{lt-leb, le-leb, lt-ltb}
 use lib.ListN.{length, take, drop, set, length-take, length-drop}
+use Rattle.std.specs.Prelude.{None}
 use Rattle.answer.specs.Answer.{Answer, refused, accepted}
-use Rattle.answer.proofs.Guards.{not_both}
 use Rattle.host.specs.declared.Host.{Host}
 use Rattle.turn.specs.Applying.{Turn}
 use Rattle.file.specs.Reading.{something, event_at}
 use Rattle.file.specs.declared.Event.{Event}
 use Rattle.table.specs.Stepping.{stepping}
 use Rattle.run.specs.Playing.{pieces, sender_in, host_in, host_at, happens, record_after, most_events, settled, Ending, stopped, Course, resting, further, course}
-use Rattle.run.specs.Parts.{record_by, played_says, ended_at, stopped_at, course_says}
-use Rattle.run.specs.Calls.{stop_says}
+use Rattle.run.specs.Parts.{played_says, stopped_at, IsCourse}
 use Rattle.run.proofs.Showing.{sees_piece, sees_event}
 use Rattle.run.specs.declared.Run.{Run}
 use Rattle.run.specs.declared.Played.{Played}
 
--- what a call says, with the table beside it
-abbrev pub Says : Played → List ℕ → Course → Type 0
-Says r table c = ◌≡◌ {A = Answer Ending × (Run × ℕ × List ℕ)} (stop_says r.stop, (r.run, r.taken, table)) (course_says c)
-
-says : (r : Played) (c : Course) → played_says r ≡ (accepted c.ending, (c.run, c.taken)) → Says r c.table c
-says r c e = ap (λ (p : Answer Ending × (Run × ℕ)). (p.0, (p.1.0, p.1.1, c.table))) e
+shows : (r : Played) (c : Course) → played_says r ≡ (accepted c.ending, (c.run, c.taken)) → IsCourse r c.table c
+shows r c e = ap (λ (p : Answer Ending × (Run × ℕ)). (p.0, (p.1.0, p.1.1, c.table))) e
 
 module _ (run : Run) (table : List ℕ) where
   -- a run that takes no more events, or has none to take, rests
@@ -54,27 +49,18 @@ module _ (run : Run) (table : List ℕ) where
 
   -- ---- What the loop answers
 
-  pub walk_ends : {whole : Course} (ps : List (List ℕ)) (at : ℕ) (r : Played) → whole ≡ further at (course run table ps)
-      → course run table ps ≡ resting run table → played_says r ≡ ended_at run at → Says r table whole
-  walk_ends ps at r w e p = rw (w, e) (says r (further at (resting run table)) (rw add-zero p))
+  pub walk_ends : {whole : Course} (ps : List (List ℕ)) (at : ℕ) → whole ≡ further at (course run table ps)
+      → course run table ps ≡ resting run table → IsCourse (record { run = run; taken = at; stop = None }) table whole
+  walk_ends ps at w e = rw (w, e) (shows (record { run = run; taken = at; stop = None }) (further at (resting run table)) (rw add-zero refl))
 
   pub walk_stops : {whole : Course} (ps : List (List ℕ)) (at n : ℕ) {k : ℕ} {after : List ℕ} (r : Played) → whole ≡ further at (course run table ps)
       → course run table ps ≡ record { ending = stopped k; run = settled run 0 (refused k); taken = n; table = after }
-      → played_says r ≡ stopped_at run (at + n) k → Says r after whole
-  walk_stops ps at n r w e p = rw (w, e) (says r (further at _) p)
+      → played_says r ≡ stopped_at run (at + n) k → IsCourse r after whole
+  walk_stops ps at n r w e p = rw (w, e) (shows r (further at _) p)
 
 -- bytes taken before bytes taken
 pub further_twice : (a b : ℕ) (c : Course) → further a (further b c) ≡ further (a + b) c
 further_twice a b c = simp add_assoc
-
--- what settles an accepted event
-pub settles : (h next : Host) (a : Answer Turn) → accepted next ≡ record_by h a → (t : Turn) × (a ≡ accepted t) × (next ≡ record_after h t)
-settles h next (accepted t) e = (t, refl, cc)
-settles h next (refused k) e = absurd (not_both (sym e) refl)
-
-pub unsettled : (h : Host) {k : ℕ} (a : Answer Turn) → refused k ≡ record_by h a → a ≡ refused k
-unsettled h (accepted t) e = absurd (not_both refl (sym e))
-unsettled h (refused j) e = cc
 
 -- three bytes from a place on end within the bytes
 pub within : (bytes : List ℕ) (at : ℕ) → length (take 3 (drop at bytes)) ≡ 3 → at + 3 ≤ length bytes
@@ -84,7 +70,7 @@ within bytes at n = omega (arith, length-take 3 (drop at bytes), length-drop at 
 
 pub walk_piece : (run : Run) (table bytes : List ℕ) (at : ℕ) {whole : Course} (r : Played) {k : ℕ}
     → whole ≡ further at (course run table (pieces (drop at bytes))) → run.events < most_events → at ≤ length bytes
-    → event_at bytes at ≡ something (refused k) → played_says r ≡ stopped_at run (length bytes) k → Says r table whole
+    → event_at bytes at ≡ something (refused k) → played_says r ≡ stopped_at run (length bytes) k → IsCourse r table whole
 unfolding happens
 walk_piece run table bytes at r {k} so_far going in_bytes seen said =
     let (p, q) = sees_piece bytes at seen in
@@ -105,22 +91,16 @@ module _ (run : Run) (table bytes : List ℕ) (at : ℕ) {whole : Course} (so_fa
   unfolding happens
   happened = let (_, q, _, _, _) = sees_event bytes at seen in rw q (sym stepped)
 
-  pub walk_refused : (r : Played) {k : ℕ} → a ≡ refused k → played_says r ≡ stopped_at run (at + 3) k → Says r after whole
+  pub walk_refused : (r : Played) {k : ℕ} → a ≡ refused k → played_says r ≡ stopped_at run (at + 3) k → IsCourse r after whole
   walk_refused r refusal said =
       let (p, _, _, _, n) = sees_event bytes at seen in
       walk_stops run table (pieces (drop at bytes)) at 3 r so_far
       (stops_here run table p going (happened ∙ ap (λ (x : Answer Turn). (x, after)) refusal) ∙ rw n refl) said
 
-  goes_with : (next : Host) (t : Turn) → a ≡ accepted t → next ≡ record_after (host_at run e.host) t
+  pub walk_goes : (next : Host) (t : Turn) → a ≡ accepted t → next ≡ record_after (host_at run e.host) t
       → whole ≡ further (at + 3) (course (moved next) after (pieces (drop (at + 3) bytes)))
-  goes_with next t taken same =
+  walk_goes next t taken same =
       let (p, _, h, _, n) = sees_event bytes at seen in
       so_far
       ∙ ap (λ (c : Course). further at c) (goes_on_here run table p going (happened ∙ ap (λ (x : Answer Turn). (x, after)) taken))
       ∙ rw (n, h, same) (simp (lt-ltb _ _ going) (further_twice at 3 _))
-
-  pub walk_goes : {next : Host} → accepted next ≡ record_by (host_at run e.host) a
-      → whole ≡ further (at + 3) (course (moved next) after (pieces (drop (at + 3) bytes)))
-  walk_goes {next} so =
-      let (t, taken, same) = settles (host_at run e.host) next a so in
-      goes_with next t taken same

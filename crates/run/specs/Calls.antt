@@ -1,15 +1,13 @@
 -- The calls of a run: what each answers and leaves, for every input. Document 01, "Refusal numbers".
-use Rattle.std.specs.Prelude.{ℕ, ◌≡◌, List, ◌∷◌, ltb, length}
-use Rattle.answer.specs.Answer.{Answer, refused, accepted, Guard, ◌when◌, guarded, lent}
+use Rattle.std.specs.Prelude.{ℕ, ◌≡◌, List, ◌∷◌, ltb, length, Option, Some, None, Result, Ok, Err}
+use Rattle.answer.specs.Answer.{Answer, refused, accepted, Guard, ◌when◌, guarded, lent, number, says}
+use Rattle.answer.specs.declared.Refusal.{Refusal}
 use Rattle.quorum.specs.World.{world_guards}
 use Rattle.quorum.specs.declared.World.{World}
-use Rattle.file.specs.Reading.{header_says}
-use Rattle.run.specs.Starting.{starting, beside_it, rest_by}
+use Rattle.run.specs.Starting.{starting, rest_by}
 use Rattle.run.specs.Playing.{pieces, Ending, ended, stopped, Course, course}
 use Rattle.run.specs.declared.Run.{Run}
-use Rattle.run.specs.declared.Started.{Started}
 use Rattle.run.specs.declared.Opened.{Opened}
-use Rattle.run.specs.declared.Stop.{Stop}
 use Rattle.run.specs.declared.Played.{Played}
 
 -- 13: "the run table's is that for 32 hosts, for every n"; 2 and 3 next. What an event's records are refused for, the event is.
@@ -24,29 +22,39 @@ left c = (c.ending, (c.run, c.taken, c.table))
 unfoldable pub playing : Run → List ℕ → List ℕ → Answer Ending × (Run × ℕ × List ℕ)
 playing run table bytes = lent (run, 0, table) (guarded (play_guards run table) (left (course run table (pieces bytes))))
 
--- ---- Document 01's number and values, for every case of the enum
+-- ---- What code returns
 
-abbrev pub stop_says : Stop → Answer Ending
-stop_says Stop.End = accepted ended
-stop_says (Stop.Event k) = accepted (stopped k)
-stop_says (Stop.Refused k) = refused k
+-- why a call stopped: at the last event's refusal, or as nothing is left
+abbrev pub ending_of : Option Refusal → Ending
+ending_of None = ended
+ending_of (Some refusal) = stopped (number refusal)
+
+-- what a call's result says, with the table beside it. Refused, the run is the one that the caller has, and no byte is taken
+abbrev pub left_by : Run → Result Played Refusal → List ℕ → Answer Ending × (Run × ℕ × List ℕ)
+left_by run (Ok p) table = (accepted (ending_of p.stop), (p.run, p.taken, table))
+left_by run (Err refusal) table = (refused (number refusal), (run, 0, table))
+
+-- the world of a run
+abbrev pub world_by : Answer Run → Answer World
+world_by (refused k) = refused k
+world_by (accepted run) = accepted run.world
 
 -- ---- Promises
 
 -- the promise of `start`
-abbrev pub Starts : List ℕ → Started → Type 0
-Starts bytes started = ◌≡◌ {A = Answer World × Run} (header_says started.answer, started.run) (beside_it (starting bytes))
+abbrev pub Starts : List ℕ → Result Run Refusal → Type 0
+Starts bytes result = says result ≡ starting bytes
 
 -- the promise of `rest`
 abbrev pub Rests : List ℕ → List ℕ → Type 0
 Rests bytes part = part ≡ rest_by bytes (starting bytes)
 
--- the promise of `open`: the answer of `start`, with the part that `rest` hands back beside it
+-- the promise of `open`: the world that `start` says, with the part that `rest` hands back beside it
 abbrev pub Opens : List ℕ → Opened → Type 0
 Opens bytes opened =
-    ◌≡◌ {A = Answer World × List ℕ} (header_says opened.answer, opened.rest.now) ((beside_it (starting bytes)).0, rest_by bytes (starting bytes))
+    ◌≡◌ {A = Answer World × List ℕ} (says opened.answer, opened.rest.now) (world_by (starting bytes), rest_by bytes (starting bytes))
 
 -- the promise of `play`
-abbrev pub Plays : Run → List ℕ → List ℕ → Played → List ℕ → Type 0
-Plays run before bytes played after =
-    ◌≡◌ {A = Answer Ending × (Run × ℕ × List ℕ)} (stop_says played.stop, (played.run, played.taken, after)) (playing run before bytes)
+abbrev pub Plays : Run → List ℕ → List ℕ → Result Played Refusal → List ℕ → Type 0
+Plays run before bytes result after =
+    ◌≡◌ {A = Answer Ending × (Run × ℕ × List ℕ)} (left_by run result after) (playing run before bytes)

@@ -46,14 +46,9 @@ starting bytes = guarded (start_guards bytes) (first_run bytes (world_in bytes))
 
 -- ---- What stands beside the answer
 
--- a refused file has no run: a run of nobody stands for it
+-- a refused file has no run: where one has to stand, it is a run of nobody
 abbrev pub blank : Run
 blank = fresh_run (world_of 0 0) (replicate 32 liar)
-
--- the world or the refusal, and the run beside it
-abbrev pub beside_it : Answer Run → Answer World × Run
-beside_it (refused k) = (refused k, blank)
-beside_it (accepted run) = (accepted run.world, run)
 
 -- "Checking the header and host records hands back the rest of the caller's bytes, from the first event on"; "(the header and record check has
 -- an empty part beside it)" where it refuses

@@ -10,7 +10,8 @@ use lib.Dec.{eqb, ltb, eqb-suc-suc}
 use lib.ListN.{length, get_or, take, drop, replicate, length-take, get_or-eq_default}
 use lib.Seq.{get_or-take, get_or-drop}
 use Rattle.answer.specs.Answer.{Answer, refused, accepted}
-use Rattle.answer.proofs.Tests.{both, either}
+use Rattle.std.proofs.lemmas.Bool.{and_parts}
+use Rattle.answer.proofs.Tests.{either}
 use Rattle.frame.specs.declared.Frame.{Frame}
 use Rattle.quorum.specs.Count.{one, count}
 use Rattle.quorum.specs.World.{thresholds_of}
@@ -94,8 +95,8 @@ module _ (words after : List ℕ) (b : Bool) (kind i v : ℕ) (two : kind < 2) (
     where
       here : (k : ℕ) → b && eqb i j && eqb kind k ≡ true → v < values j
       here k e =
-          let (c, _) = both (b && eqb i j) (eqb kind k) e in
-          let (_, d) = both b (eqb i j) c in
+          let (c, _) = and_parts (b && eqb i j) (eqb kind k) e in
+          let (_, d) = and_parts b (eqb i j) c in
           rw (eqb-true i j d) at low
 
       by : (k : ℕ) → count (values j) (has_sent after k j) ≡ count (values j) (has_sent words k j) + one (b && eqb i j && eqb kind k)
@@ -127,8 +128,8 @@ sent_one_lem words kind i v low here new k j x l = go (eqb i j && eqb kind k && 
   where
     go : (b : Bool) → eqb i j && eqb kind k && eqb v x ≡ b → one (has_sent (mark words i (sent_bit kind v)) k j x) ≡ one (has_sent words k j x) + one b
     go true e =
-        let (c, d) = both (eqb i j && eqb kind k) (eqb v x) e in
-        let (a, b) = both (eqb i j) (eqb kind k) c in
+        let (c, d) = and_parts (eqb i j && eqb kind k) (eqb v x) e in
+        let (a, b) = and_parts (eqb i j) (eqb kind k) c in
         let set = added (get_or words (marks_at i) 0) (sent_bit kind v) in
         rw (← eqb-true i j a, ← eqb-true kind k b, ← eqb-true v x d, put_same words (marks_at i) (sent_bit kind v) here, set, new) refl
     go false e =

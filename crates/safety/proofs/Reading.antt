@@ -9,7 +9,8 @@ use native.Mathlib.Omega.{arith}
 use lib.Dec.{ltb}
 use lib.ListN.{get_or}
 use borrow.Author.Tests.{lt-ltb, ltb-true}
-use Rattle.answer.proofs.Tests.{clash, both}
+use Rattle.std.proofs.lemmas.Bool.{and_parts}
+use Rattle.answer.proofs.Tests.{clash}
 use Rattle.quorum.specs.Sets.{member}
 use Rattle.host.specs.Words.{instance, values, VAL, AUX, set_at, marks_at, sent_bit, admit_bit, begun_bit}
 use Rattle.safety.proofs.Votes.{Val, v0, v1, neither, Phase, phase1, phase2, Slot, stage0, stage1, History}
@@ -251,8 +252,8 @@ pub holds_parts : (T : Words) (i r : ℕ) (q : Slot) (x : Item) → holds T i r 
     → (r < 16) × (means q x ≡ true) × (member (get_or (T i) (at (inst r q) x) 0) (bit x) ≡ true)
 unfolding holds
 holds_parts T i r q x e =
-    let (a, m) = both (ltb r 16 && means q x) (member (get_or (T i) (at (inst r q) x) 0) (bit x)) e in
-    let (l, f) = both (ltb r 16) (means q x) a in
+    let (a, m) = and_parts (ltb r 16 && means q x) (member (get_or (T i) (at (inst r q) x) 0) (bit x)) e in
+    let (l, f) = and_parts (ltb r 16) (means q x) a in
     (ltb-true r 16 l, f, m)
 
 pub holds_when : (T : Words) (i r : ℕ) (q : Slot) (x : Item) → r < 16 → means q x ≡ true

@@ -9,22 +9,19 @@ use native.Mathlib.Omega.{arith}
 use lib.Dec.{ltb}
 use lib.ListN.{length}
 use borrow.Author.Tests.{lt-ltb, ne_eqb, not-true}
-use Rattle.answer.specs.Answer.{Answer, refused, accepted}
-use Rattle.answer.proofs.Guards.{not_both}
+use Rattle.std.specs.Prelude.{Ok}
+use Rattle.answer.specs.Answer.{accepted}
 use Rattle.frame.specs.declared.Frame.{Frame}
 use Rattle.quorum.specs.Count.{count}
-use Rattle.quorum.specs.declared.World.{World}
 use Rattle.quorum.proofs.Reached.{Sized}
 use Rattle.host.specs.Words.{values, VAL, AUX, marks, has_sent}
-use Rattle.file.specs.Reading.{header_says}
 use Rattle.table.specs.Table.{part_of}
-use Rattle.run.specs.Starting.{starting, beside_it}
+use Rattle.run.specs.Starting.{starting}
 use Rattle.run.specs.Playing.{pieces, host_at, after}
 use Rattle.run.specs.Broadcasts.{broadcasts}
 use Rattle.run.specs.Calls.{Starts}
 use Rattle.run.specs.Replaying.{replaying}
 use Rattle.run.specs.declared.Run.{Run}
-use Rattle.run.specs.declared.Started.{Started}
 use Rattle.run.proofs.Runs.{replaying_after}
 use Rattle.run.proofs.Starts.{started_world}
 use Rattle.safety.specs.Demand.{Honest, liars, proposal, Equal, Decided, in_round, over_rounds, Safe, cleared, events, AlwaysSafe}
@@ -159,21 +156,13 @@ over_most (suc k) m f l = omega (arith, over_most k m f l, l (suc k))
 pub sent_most : {first now : Run} {frames : ℕ → List Frame} → Safe first now frames → (i : ℕ) → Honest first i → (host_at now i).sent ≤ 192
 sent_most {frames = frames} s i h = rw (s.sent i h) (over_most 16 12 (λ r. in_round r (frames i)) (λ r. s.twelve i r h))
 
--- a run that is started
-started_is : (bytes : List ℕ) (s : Started) {w : World} → Starts bytes s → header_says s.answer ≡ accepted w → starting bytes ≡ accepted s.run
-started_is bytes s {w} p q = go (starting bytes) p
-  where
-    go : (a : Answer Run) → ◌≡◌ {A = Answer World × Run} (header_says s.answer, s.run) (beside_it a) → a ≡ accepted s.run
-    go (refused k) e = absurd (not_both (sym (ap (λ x. x.0) e) ∙ q) refl)
-    go (accepted run) e = ap {B = Answer Run} accepted (sym (ap (λ x. x.1) e))
-
 -- the same of the calls, by their promises: the run that `start` answers, with any bytes of events, those that `rest` hands back among them,
 -- played by `play` from a cleared table and called again after each refused event until the bytes end
-pub calls_safe : (bytes : List ℕ) (s : Started) {w : World} → Starts bytes s → header_says s.answer ≡ accepted w → liars s.run ≤ s.run.world.t
-    → (part : List ℕ) → Safe s.run (replaying (suc (length part)) s.run cleared part).0 (broadcasts s.run cleared (pieces part))
-calls_safe bytes s p q few part =
-    let started = started_is bytes s p q in
+pub calls_safe : (bytes : List ℕ) (run : Run) → Starts bytes (Ok run) → liars run ≤ run.world.t
+    → (part : List ℕ) → Safe run (replaying (suc (length part)) run cleared part).0 (broadcasts run cleared (pieces part))
+calls_safe bytes run p few part =
+    let started = sym p in
     let (n, t) = started_world bytes started in
     let long : ltb (length cleared) 14336 ≡ false = refl in
-    rw (replaying_after (suc (length part)) s.run cleared part (long, (n, (t, tt))) (omega arith))
-    (safe_after bytes s.run started few (pieces part))
+    rw (replaying_after (suc (length part)) run cleared part (long, (n, (t, tt))) (omega arith))
+    (safe_after bytes run started few (pieces part))

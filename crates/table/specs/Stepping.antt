@@ -1,6 +1,6 @@
 -- One event on the table: what it answers and leaves, for every content of what the call is lent. Document 01, "Refusal numbers": "Event: 1, 4,
 -- 5 (host), 6; a turn then 10; a delivery then 7, 8, 9, 5 (sender), 10, 11, 12". The 1 is the reader's.
-use Rattle.std.specs.Prelude.{ℕ, ◌≡◌, Bool, cond, ◌&&◌, ◌||◌, List, ◌∷◌, ◌++◌, ltb, eqb, length}
+use Rattle.std.specs.Prelude.{ℕ, ◌≡◌, Bool, cond, ◌&&◌, ◌||◌, List, ◌∷◌, ◌++◌, ltb, eqb, length, Result}
 use Rattle.answer.specs.Answer.{Answer, Guard, ◌when◌, guarded, going_on}
 use Rattle.quorum.specs.World.{world_guards}
 use Rattle.quorum.specs.declared.World.{World}
@@ -9,6 +9,7 @@ use Rattle.host.specs.declared.Host.{Host}
 use Rattle.turn.specs.Applying.{Turn}
 use Rattle.turn.specs.Turning.{turned_says}
 use Rattle.turn.specs.declared.Turned.{Turned}
+use Rattle.answer.specs.declared.Refusal.{Refusal}
 use Rattle.file.specs.Reading.{event_guards}
 use Rattle.file.specs.declared.Event.{Event}
 use Rattle.table.specs.Table.{delivering_at, turning_at}
@@ -33,6 +34,6 @@ unfoldable pub stepping : List ℕ → Host → Host → World → Event → Ans
 stepping table h sender w e = going_on table (readying (length table) h sender w e) (acting table h sender w e)
 
 -- the promise of `step`
-abbrev pub Steps : List ℕ → Host → Host → World → Event → Turned → List ℕ → Type 0
-Steps before host sender world event answer after =
-    ◌≡◌ {A = Answer Turn × List ℕ} (turned_says answer, after) (stepping before host sender world event)
+abbrev pub Steps : List ℕ → Host → Host → World → Event → Result Turned Refusal → List ℕ → Type 0
+Steps before host sender world event result after =
+    ◌≡◌ {A = Answer Turn × List ℕ} (turned_says result, after) (stepping before host sender world event)

@@ -8,14 +8,14 @@
 
 mod parts;
 
+ghost use Rattle.answer.specs.Answer.{says};
 ghost use Rattle.std.specs.Prelude.{◌≡◌};
-ghost use Rattle.frame.specs.Frame.{sound_says};
 ghost use Rattle.table.specs.Stepping.{readying, Steps};
 
+use answer::Refusal;
 use file::Event;
-use frame::Sound;
 use host::Host;
-use quorum::{Checked, World};
+use quorum::World;
 use turn::Turned;
 
 // Plays one event: refusals 13, 2, 3, 4, 5, 6; for a turn then 10, and 13 where it would broadcast
@@ -23,33 +23,28 @@ use turn::Turned;
 // the event's host, `sender` that of the frame's sender, which a turn does not look at. A delivery
 // that is accepted answers as an idle turn does: it sends nothing and changes no record.
 #[tactic(auto, unfolding(crate::specs::Stepping::stepping))]
-pub fn step(table: &mut [u32], host: Host, sender: Host, world: World, event: Event) -> Turned
+pub fn step(
+    table: &mut [u32],
+    host: Host,
+    sender: Host,
+    world: World,
+    event: Event,
+) -> Result<Turned, Refusal>
     ensures { Steps table.old host sender world event result table.new }
 {
-    let words = table.len();
-    let ready = gate(words, host, sender, world, event);
-    if let Sound::Refused(number) = ready {
-        return Turned::Refused(number);
-    }
-    if event.kind == 0 {
-        return parts::deliver(table, host, sender, world, event);
-    }
-    parts::turn(table, host, world, event)
+    gate(table.len(), host, sender, world, event)?;
+    parts::act(table, host, sender, world, event)
 }
 
 // What stops an event before its host is looked at: 13, 2, 3, 4, 5.
-#[tactic(auto, unfolding(crate::specs::Stepping::readying, quorum::specs::World::checking, file::specs::Reading::allowing))]
-fn gate(words: usize, host: Host, sender: Host, world: World, event: Event) -> Sound
-    ensures { sound_says result ≡ readying words host sender world event }
+#[tactic(auto, using(crate::proofs::Passing::readying_is))]
+fn gate(words: usize, host: Host, sender: Host, world: World, event: Event) -> Result<(), Refusal>
+    ensures { says result ≡ readying words host sender world event }
 {
-    let bad_host = host::out_of_range(host);
-    let bad_sender = host::out_of_range(sender);
-    if (words < 14336) | bad_host | ((event.kind == 0) & bad_sender) {
-        return Sound::Refused(13);
+    let bad_sender = (event.kind == file::DELIVER) & host::out_of_range(sender);
+    if (words < 14336) | host::out_of_range(host) | bad_sender {
+        return Err(Refusal::Lent);
     }
-    let checked = quorum::check(world);
-    if let Checked::Refused(number) = checked {
-        return Sound::Refused(number);
-    }
+    quorum::check(world)?;
     file::check(event, world)
 }

@@ -6,17 +6,17 @@ use mathlib.Core.List.{List}
 use native.Mathlib.Omega.{arith}
 use lib.Dec.{ltb, leb}
 use borrow.Author.Tests.{ltb-true, leb-true, leb-false, lt-leb, not-true, not-false}
-use Rattle.answer.proofs.Tests.{both, either}
+use Rattle.std.proofs.lemmas.Bool.{and_parts}
+use Rattle.answer.proofs.Tests.{either}
 use Rattle.quorum.specs.Sets.{member, size}
 use Rattle.quorum.specs.declared.Thresholds.{Thresholds}
 use Rattle.host.specs.First.{first}
 use Rattle.host.specs.Words.{values, VAL, AUX, marks, has_sent, admitted, begun}
 use Rattle.host.specs.Record.{finished}
 use Rattle.turn.specs.Moves.{witnesses, due, echo_due, admit_due, search, or_next, current, chosen}
-use Rattle.turn.specs.Moves.{beginning, some_in, aux_sent, aux_choice, answering, heard, viewers, view_of, viewing, proceeding}
+use Rattle.turn.specs.Moves.{beginning, aux_sent, aux_choice, answering, heard, viewers, view_of, viewing, proceeding}
 use Rattle.host.specs.declared.Host.{Host}
-use Rattle.host.specs.declared.Place.{Place}
-use Rattle.turn.specs.declared.search.Found.{Found}
+use Rattle.std.specs.Prelude.{Option, Some, None, is_some}
 use Rattle.turn.specs.declared.choosing.Move.{Move}
 use Rattle.host.proofs.Firsts.{first_nowhere, first_none, first_at}
 use Rattle.turn.proofs.Searches.{Foremost, NoneDue, search_at, search_nothing, search_none}
@@ -46,11 +46,11 @@ Gives words h need (Move.View view) =
 
 module _ (words : List ℕ) (h : Host) (need : ℕ) where
   answering_gives : begun words (current h) ≡ true → aux_sent words (current h) ≡ false
-      → (q : Place) → aux_choice words (current h) ≡ q → Gives words h need (answering (current h) q)
-  answering_gives g a (Place.At v) e =
+      → (q : Option ℕ) → aux_choice words (current h) ≡ q → Gives words h need (answering (current h) q)
+  answering_gives g a (Some v) e =
       let (l, t, o) = first_at (admitted words (current h)) (values (current h)) v e in
       (refl, g, a, l, t, o)
-  answering_gives g a Place.Nowhere e = nothing_admitted g a (first_nowhere (admitted words (current h)) (values (current h)) e)
+  answering_gives g a None e = nothing_admitted g a (first_nowhere (admitted words (current h)) (values (current h)) e)
 
   viewing_gives : begun words (current h) ≡ true → aux_sent words (current h) ≡ true → Gives words h need (viewing words need (current h))
   unfolding viewing
@@ -81,15 +81,15 @@ pub data Chosen (words : List ℕ) (h : Host) (s : Thresholds) (m : Move) : Type
   proceeds : NoneDue (echo_due words s) → NoneDue (admit_due words s) → proceeding words h s.view (current h) ≡ m → Chosen words h s m
 
 module _ (words : List ℕ) (h : Host) (s : Thresholds) (m : Move) where
-  admit_is : NoneDue (echo_due words s) → (q : Found) → search (admit_due words s) ≡ q
+  admit_is : NoneDue (echo_due words s) → (q : Option (ℕ × ℕ)) → search (admit_due words s) ≡ q
       → or_next q Move.Admit (proceeding words h s.view (current h)) ≡ m → Chosen words h s m
-  admit_is n (Found.At i v) f e = admits i v (sym e) n (search_at (admit_due words s) i v f)
-  admit_is n Found.Nothing f e = proceeds n (search_nothing (admit_due words s) f) e
+  admit_is n (Some (i, v)) f e = admits i v (sym e) n (search_at (admit_due words s) i v f)
+  admit_is n None f e = proceeds n (search_nothing (admit_due words s) f) e
 
-  echo_is : (q : Found) → search (echo_due words s) ≡ q
+  echo_is : (q : Option (ℕ × ℕ)) → search (echo_due words s) ≡ q
       → or_next q Move.Echo (or_next (search (admit_due words s)) Move.Admit (proceeding words h s.view (current h))) ≡ m → Chosen words h s m
-  echo_is (Found.At i v) f e = echoes i v (sym e) (search_at (echo_due words s) i v f)
-  echo_is Found.Nothing f e = admit_is (search_nothing (echo_due words s) f) (search (admit_due words s)) refl e
+  echo_is (Some (i, v)) f e = echoes i v (sym e) (search_at (echo_due words s) i v f)
+  echo_is None f e = admit_is (search_nothing (echo_due words s) f) (search (admit_due words s)) refl e
 
   -- "Kinds are tried in this order, and within echo and admit it is the first that applies": no move is skipped
   pub chosen_first : chosen words h s ≡ m → Chosen words h s m
@@ -102,8 +102,8 @@ due_parts : (words : List ℕ) (need from i v : ℕ) → due words need from i v
     → (v < values i) × (need ≤ witnesses words i v) × (member (marks words i) (from + v) ≡ false)
 unfolding due
 due_parts words need from i v e =
-    let (c, m) = both (ltb v (values i) && leb need (witnesses words i v)) (not (member (marks words i) (from + v))) e in
-    let (l, n) = both (ltb v (values i)) (leb need (witnesses words i v)) c in
+    let (c, m) = and_parts (ltb v (values i) && leb need (witnesses words i v)) (not (member (marks words i) (from + v))) e in
+    let (l, n) = and_parts (ltb v (values i)) (leb need (witnesses words i v)) c in
     (ltb-true _ _ l, leb-true _ _ n, not-true _ m)
 
 no_search : (words : List ℕ) (h : Host) (need : ℕ) (m : Move) → proceeding words h need (current h) ≡ m → Gives words h need m
@@ -114,11 +114,11 @@ echo_found words h s i v (echoes j u e f) =
     let a : j ≡ i = cc in
     let b : u ≡ v = cc in
     rw (a, b) at f
-echo_found words h s i v (admits j u e n f) = absurd (true≢false (cc))
+echo_found words h s i v (admits j u e n f) = absurd (cc)
 echo_found words h s i v (proceeds n o e) = absurd (no_search words h s.view (Move.Echo i v) e)
 
 admit_found : (words : List ℕ) (h : Host) (s : Thresholds) (i v : ℕ) → Chosen words h s (Move.Admit i v) → Foremost (admit_due words s) i v
-admit_found words h s i v (echoes j u e f) = absurd (true≢false (cc))
+admit_found words h s i v (echoes j u e f) = absurd (cc)
 admit_found words h s i v (admits j u e n f) =
     let a : j ≡ i = cc in
     let b : u ≡ v = cc in
@@ -191,11 +191,11 @@ chosen_voting words h s m r d e = not_idle (finished h) m _ (proceeded words h s
 
 -- so a host that begins with a VAL votes still
 pub begin_voting : (words : List ℕ) (h : Host) (s : Thresholds) (i v : ℕ) → chosen words h s ≡ Move.Begin i v → finished h ≡ false
-begin_voting words h s i v = chosen_voting words h s (Move.Begin i v) refl (λ q. true≢false (cc))
+begin_voting words h s i v = chosen_voting words h s (Move.Begin i v) refl (λ q. cc)
 
 -- and so does one that takes a view
 pub view_voting : (words : List ℕ) (h : Host) (s : Thresholds) (view : ℕ) → chosen words h s ≡ Move.View view → finished h ≡ false
-view_voting words h s view = chosen_voting words h s (Move.View view) refl (λ q. true≢false (cc))
+view_voting words h s view = chosen_voting words h s (Move.View view) refl (λ q. cc)
 
 -- a host that begins with a VAL: of its own value, in its current instance, where it has not begun nor broadcast it
 pub begin_new : (words : List ℕ) (h : Host) (s : Thresholds) (i v : ℕ) → chosen words h s ≡ Move.Begin i v
@@ -213,9 +213,9 @@ pub aux_admitted : (words : List ℕ) (h : Host) (s : Thresholds) (i v : ℕ) �
     × (v < values i) × (admitted words i v ≡ true) × ((u : ℕ) → u < v → admitted words i u ≡ false)
 aux_admitted words h s i v e = (chosen_gives words h s (Move.Aux i v) refl e).2
 
-nowhere : (q : Place) → some_in q ≡ false → q ≡ Place.Nowhere
-nowhere (Place.At v) e = cc
-nowhere Place.Nowhere e = refl
+nowhere : (q : Option ℕ) → is_some q ≡ false → q ≡ None
+nowhere (Some v) e = cc
+nowhere None e = refl
 
 -- no AUX sent: none of any value
 pub aux_none : (words : List ℕ) (i : ℕ) → aux_sent words i ≡ false → (v : ℕ) → v < values i → has_sent words AUX i v ≡ false

@@ -1,7 +1,7 @@
 -- What a turn changes: marks alone, of which none is lost, and the sent count where it broadcasts; and what it broadcasts. Assumes nothing.
 use Prim.Native.Nat.{ℕ, ◌+◌, ◌/◌, ◌%◌, ◌≤◌, ◌<◌}
 use mathlib.Core.Path.{◌≡◌, refl, ap, ◌∙◌}
-use mathlib.Core.Bool.{true, false, true≢false}
+use mathlib.Core.Bool.{true, false}
 use mathlib.Core.List.{List}
 use native.Mathlib.Omega.{arith}
 use lib.ListN.{length, get_or}
@@ -159,10 +159,10 @@ marked words i j l = rw (put_same words (marks_at i) j l) (added (get_or words (
 
 -- no other answer has a frame
 pub quiet_frame : {g k : Host} {f : Frame} → broadcast g f ≡ quiet k → ⊥
-quiet_frame e = true≢false (cc)
+quiet_frame e = cc
 
 pub idle_frame : {g : Host} {f : Frame} → broadcast g f ≡ idle → ⊥
-idle_frame e = true≢false (cc)
+idle_frame e = cc
 
 -- the frame and the words are those of the move
 told : (words : List ℕ) {after ws : List ℕ} (me : ℕ) {g k : Host} {f x : Frame} → broadcast g f ≡ broadcast k x → after ≡ ws

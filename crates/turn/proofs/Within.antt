@@ -11,20 +11,19 @@ use Rattle.quorum.specs.declared.Thresholds.{Thresholds}
 use Rattle.host.specs.Words.{values, VAL, has_sent, admitted, begun}
 use Rattle.host.specs.Record.{finished, Valid}
 use Rattle.host.specs.declared.Host.{Host}
-use Rattle.host.specs.declared.Place.{Place}
+use Rattle.std.specs.Prelude.{Option, Some, None}
 use Rattle.host.proofs.Firsts.{first_at}
 use Rattle.host.proofs.Ranges.{in_64}
 use Rattle.turn.specs.Moves.{echo_due, admit_due, search, beginning, aux_sent, aux_choice, answering, viewers, viewing, proceeding, or_next, current, chosen}
 use Rattle.turn.specs.Applying.{InRange}
-use Rattle.turn.specs.declared.search.Found.{Found}
 use Rattle.turn.specs.declared.choosing.Move.{Move}
 use Rattle.turn.proofs.Searches.{search_at}
 
-answer_in : (i : ℕ) (q : Place) → i < 64 → ((v : ℕ) → q ≡ Place.At v → v < 3) → InRange (answering i q)
-answer_in i (Place.At v) l f = (l, f v refl)
-answer_in i Place.Nowhere l f = tt
+answer_in : (i : ℕ) (q : Option ℕ) → i < 64 → ((v : ℕ) → q ≡ Some v → v < 3) → InRange (answering i q)
+answer_in i (Some v) l f = (l, f v refl)
+answer_in i None l f = tt
 
-choice_in : (words : List ℕ) (i v : ℕ) → aux_choice words i ≡ Place.At v → v < 3
+choice_in : (words : List ℕ) (i v : ℕ) → aux_choice words i ≡ Some v → v < 3
 choice_in words i v e = let (l, _, _) = first_at (admitted words i) (values i) v e in omega arith
 
 proceed_in : (words : List ℕ) (h : Host) (need i : ℕ) → Valid h → i < 64 → InRange (proceeding words h need i)
@@ -35,9 +34,9 @@ proceed_in words h need i d l =
     (λ _. either InRange (not (aux_sent words i)) _ _ (λ _. answer_in i (aux_choice words i) l (choice_in words i))
     (λ _. either InRange (leb need (size (viewers words i))) _ Move.Idle (λ _. tt) (λ _. tt))))
 
-next_in : (q : Found) (move : ℕ → ℕ → Move) (m : Move) → ((i v : ℕ) → q ≡ Found.At i v → InRange (move i v)) → InRange m → InRange (or_next q move m)
-next_in (Found.At i v) move m f g = f i v refl
-next_in Found.Nothing move m f g = g
+next_in : (q : Option (ℕ × ℕ)) (move : ℕ → ℕ → Move) (m : Move) → ((i v : ℕ) → q ≡ Some (i, v) → InRange (move i v)) → InRange m → InRange (or_next q move m)
+next_in (Some (i, v)) move m f g = f i v refl
+next_in None move m f g = g
 
 pub chosen_in : (words : List ℕ) (h : Host) (s : Thresholds) → Valid h → InRange (chosen words h s)
 unfolding chosen

@@ -1,15 +1,13 @@
 -- Which move a turn makes. Document 01, "What a host does", Turn: "makes one move, or answers "idle" exactly when none applies. Kinds are tried in
 -- this order, and within echo and admit it is the first that applies, by round, phase, stage and value (0, 1, neither)". The paper's Figures 1
 -- and 2, whose lines stand in brackets.
-use Rattle.std.specs.Prelude.{ℕ, ◌+◌, ◌/◌, ◌%◌, Bool, true, false, cond, ◌&&◌, not, List, ltb, leb, eqb}
+use Rattle.std.specs.Prelude.{ℕ, ◌+◌, ◌/◌, ◌%◌, Bool, cond, ◌&&◌, not, List, ltb, leb, eqb, Option, Some, None, is_some}
 use Rattle.quorum.specs.Sets.{member, size, union}
 use Rattle.quorum.specs.declared.Thresholds.{Thresholds}
 use Rattle.host.specs.First.{first}
 use Rattle.host.specs.Words.{instance, values, VAL, AUX, senders, marks, sent_bit, admit_bit, has_sent, admitted, begun}
 use Rattle.host.specs.Record.{finished}
 use Rattle.host.specs.declared.Host.{Host}
-use Rattle.host.specs.declared.Place.{Place}
-use Rattle.turn.specs.declared.search.Found.{Found}
 use Rattle.turn.specs.declared.choosing.Move.{Move}
 
 -- ---- Echo and admit
@@ -34,11 +32,11 @@ admit_due words s = due words s.admit (admit_bit 0)
 abbrev pub in_order : (ℕ → ℕ → Bool) → ℕ → Bool
 in_order p k = p (k / 3) (k % 3)
 
-abbrev pub found_at : Place → Found
-found_at Place.Nowhere = Found.Nothing
-found_at (Place.At k) = Found.At (k / 3) (k % 3)
+abbrev pub found_at : Option ℕ → Option (ℕ × ℕ)
+found_at None = None
+found_at (Some k) = Some (k / 3, k % 3)
 
-unfoldable pub search : (ℕ → ℕ → Bool) → Found
+unfoldable pub search : (ℕ → ℕ → Bool) → Option (ℕ × ℕ)
 search p = found_at (first (in_order p) 192)
 
 -- ---- Proceed, in an instance i
@@ -48,20 +46,16 @@ unfoldable pub beginning : List ℕ → ℕ → ℕ → Move
 beginning words i own = cond (has_sent words VAL i own) (Move.BeginUnsent i) (Move.Begin i own)
 
 -- whether an AUX was sent here
-abbrev pub some_in : Place → Bool
-some_in (Place.At v) = true
-some_in Place.Nowhere = false
-
 abbrev pub aux_sent : List ℕ → ℕ → Bool
-aux_sent words i = some_in (first (has_sent words AUX i) (values i))
+aux_sent words i = is_some (first (has_sent words AUX i) (values i))
 
 -- "(b) Begun, no AUX sent, something admitted: broadcast AUX of the lowest admitted value." [Figure 2, lines 2, 3]
-abbrev pub aux_choice : List ℕ → ℕ → Place
+abbrev pub aux_choice : List ℕ → ℕ → Option ℕ
 aux_choice words i = first (admitted words i) (values i)
 
-abbrev pub answering : ℕ → Place → Move
-answering i (Place.At v) = Move.Aux i v
-answering i Place.Nowhere = Move.Idle
+abbrev pub answering : ℕ → Option ℕ → Move
+answering i (Some v) = Move.Aux i v
+answering i None = Move.Idle
 
 -- the senders whose recorded AUX is v, where v is admitted; nobody where it is not
 unfoldable pub heard : List ℕ → ℕ → ℕ → ℕ
@@ -90,9 +84,9 @@ proceeding words h need i =
 
 -- ---- The move
 
-abbrev pub or_next : Found → (ℕ → ℕ → Move) → Move → Move
-or_next (Found.At i v) move next = move i v
-or_next Found.Nothing move next = next
+abbrev pub or_next : Option (ℕ × ℕ) → (ℕ → ℕ → Move) → Move → Move
+or_next (Some (i, v)) move next = move i v
+or_next None move next = next
 
 -- "Proceed, in the current instance only."
 abbrev pub current : Host → ℕ

@@ -1,7 +1,8 @@
 -- The call of a turn: what it answers and leaves, for every content of what it is lent. Document 01, "What a host does" (Turn) and "Refusal
 -- numbers".
-use Rattle.std.specs.Prelude.{ℕ, ◌≡◌, ◌&&◌, List, [], ◌∷◌, ◌++◌, leb, eqb, length}
-use Rattle.answer.specs.Answer.{Answer, refused, accepted, Guard, ◌when◌, guarded, lent}
+use Rattle.std.specs.Prelude.{ℕ, ◌≡◌, ◌&&◌, List, [], ◌∷◌, ◌++◌, leb, eqb, length, Result, Ok, Err}
+use Rattle.answer.specs.Answer.{Answer, refused, accepted, Guard, ◌when◌, guarded, lent, number}
+use Rattle.answer.specs.declared.Refusal.{Refusal}
 use Rattle.quorum.specs.World.{thresholds_of}
 use Rattle.quorum.specs.declared.World.{World}
 use Rattle.quorum.specs.declared.Thresholds.{Thresholds}
@@ -35,13 +36,16 @@ turning words h w me = lent words (guarded (turn_guards words h w me) (made word
 unfoldable pub taking : List ℕ → Host → Thresholds → ℕ → ℕ → Answer Turn × List ℕ
 taking words h s n me = lent words (guarded (own_guards words h s n me) (made words h s me))
 
--- document 01's number and values, for every case of the enum
-abbrev pub turned_says : Turned → Answer Turn
-turned_says Turned.Idle = accepted idle
-turned_says (Turned.Quiet h) = accepted (quiet h)
-turned_says (Turned.Broadcast h f) = accepted (broadcast h f)
-turned_says (Turned.Refused k) = refused k
+-- the turn that the enum is, and the answer that a call's result is: document 01's number, or the turn
+abbrev pub turn_of : Turned → Turn
+turn_of Turned.Idle = idle
+turn_of (Turned.Quiet h) = quiet h
+turn_of (Turned.Broadcast h f) = broadcast h f
+
+abbrev pub turned_says : Result Turned Refusal → Answer Turn
+turned_says (Ok t) = accepted (turn_of t)
+turned_says (Err r) = refused (number r)
 
 -- the promise of `turn`
-abbrev pub Turns : List ℕ → Host → World → ℕ → Turned → List ℕ → Type 0
-Turns before host world me answer after = ◌≡◌ {A = Answer Turn × List ℕ} (turned_says answer, after) (turning before host world me)
+abbrev pub Turns : List ℕ → Host → World → ℕ → Result Turned Refusal → List ℕ → Type 0
+Turns before host world me result after = ◌≡◌ {A = Answer Turn × List ℕ} (turned_says result, after) (turning before host world me)

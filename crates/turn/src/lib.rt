@@ -7,35 +7,30 @@
 
 mod applying;
 mod choosing;
-mod search;
-mod words;
+mod instance;
 
 ghost use Rattle.turn.specs.Turning.{Turns};
 
+use answer::Refusal;
 use frame::Frame;
 use host::Host;
-use quorum::{Checked, World};
+use quorum::World;
 
 // A turn that made no move, one that broadcast nothing and one that broadcast a frame to all hosts,
 // each with the host's record after it.
-#[derive(Clone, Copy, Drop)]
+#[derive(Clone, Copy, Debug, PartialEq, Eq, Drop)]
 pub enum Turned {
     Idle,
     Quiet(Host),
     Broadcast(Host, Frame),
-    Refused(u8),
 }
 
 // Makes the one move that a host has to make, as host number `me`: refusals 13, 2, 3, 5, 6, 10, and
 // 13 where the move would broadcast with the sent count at 224.
-#[tactic(auto, unfolding(host::specs::Calls::readying))]
-pub fn turn(sets: &mut [u32], host: Host, world: World, me: u32) -> Turned
+#[tactic(auto, using(crate::proofs::Passing::ready_takes, crate::proofs::Passing::turn_stops, crate::proofs::Passing::takes))]
+pub fn turn(sets: &mut [u32], host: Host, world: World, me: u32) -> Result<Turned, Refusal>
     ensures { Turns sets.old host world me result sets.new }
 {
-    let words = sets.len();
-    let ready = host::ready(words, host, world);
-    match ready {
-        Checked::Refused(number) => Turned::Refused(number),
-        Checked::Accepted(at) => applying::take(sets, host, at, world.n, me),
-    }
+    let at = host::ready(sets.len(), host, world)?;
+    applying::take(sets, host, at, world.n, me)
 }

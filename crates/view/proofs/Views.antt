@@ -5,7 +5,8 @@ use mathlib.Core.Bool.{Bool, true, false, cond, ◌&&◌}
 use native.Mathlib.Omega.{arith}
 use lib.Dec.{leb, eqb}
 use borrow.Author.Tests.{leb-false, lt-leb, le-leb, eqb-true, eqb-false, eq-eqb, ne_eqb}
-use Rattle.answer.proofs.Tests.{both, either}
+use Rattle.std.proofs.lemmas.Bool.{and_parts}
+use Rattle.answer.proofs.Tests.{either}
 use Rattle.quorum.specs.Sets.{member}
 use Rattle.host.specs.Record.{coin, moved, stood, Valid}
 use Rattle.host.proofs.Ranges.{moved_valid, stood_valid}
@@ -83,7 +84,7 @@ view_go : (P : Host → Type 0) (h a b c d : Host) (m n : Bool) (x y z : Bool) �
     → ((h.stage ≡ 0 → ⊥) → (h.phase ≡ 1 → ⊥) → P d)
     → P (cond x a (cond y b (cond z c d)))
 view_go P h a b c d m n true y z ex ey ez fa fb fc fd = fa (eqb-true h.stage 0 ex)
-view_go P h a b c d m n false true z ex ey ez fa fb fc fd = let (l, r) = both m n ey in fb (eqb-false h.stage 0 ex) l r
+view_go P h a b c d m n false true z ex ey ez fa fb fc fd = let (l, r) = and_parts m n ey in fb (eqb-false h.stage 0 ex) l r
 view_go P h a b c d m n false false true ex ey ez fa fb fc fd = fc (eqb-false h.stage 0 ex) (eqb-true h.phase 1 ez)
 view_go P h a b c d m n false false false ex ey ez fa fb fc fd = fd (eqb-false h.stage 0 ex) (eqb-false h.phase 1 ez)
 

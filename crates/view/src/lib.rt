@@ -2,8 +2,8 @@
 // specs/View.antt, with document 01's sentence and the paper's line at each rule.
 #![tactic(auto)]
 
-ghost use Rattle.std.specs.Prelude.{◌≡◌, cond, ◌-◌};
-ghost use Rattle.host.specs.Record.{coin, moved, stood};
+ghost use Rattle.std.specs.Prelude.{◌≡◌};
+ghost use Rattle.host.specs.Record.{coin};
 ghost use Rattle.view.specs.View.{only_of, phase_estimate, decided, round_estimate, after_round, Views};
 
 use host::Host;
@@ -14,36 +14,31 @@ pub fn after_view(host: Host, view: u8) -> Host
     ensures { Views host view result }
 {
     if host.stage == 0 {
-        let own = only(view);
-        return move_to(
-            host,
-            host.round,
-            host.phase,
-            1,
-            own,
-            host.est,
-            host.decision,
-        );
+        return Host {
+            stage: 1,
+            own: only(view),
+            ..host
+        };
     }
-    let zero = quorum::has(view as u32, 0);
-    let one = quorum::has(view as u32, 1);
-    if zero & one {
-        return stand(host, 2);
+    if quorum::has(view as u32, 0) && quorum::has(view as u32, 1) {
+        return Host {
+            standing: host::BROKEN,
+            ..host
+        };
     }
     if host.phase == 1 {
-        let coin = coin_of(host);
-        let est = phase_estimate(view, coin);
-        return move_to(host, host.round, 2, 0, est, est, host.decision);
+        let est = phase_estimate(view, coin_of(host));
+        return Host {
+            phase: 2,
+            stage: 0,
+            own: est,
+            est,
+            ..host
+        };
     }
     let est = round_estimate(view, host.est);
     let decision = decision(view, host.decision);
     next_round(host, est, decision)
-}
-
-fn pick(b: bool, x: u8, y: u8) -> u8
-    ensures { result ≡ cond b x y }
-{
-    if b { x } else { y }
 }
 
 // The value of a view of one value 0 or 1, else neither.
@@ -51,26 +46,20 @@ fn pick(b: bool, x: u8, y: u8) -> u8
 fn only(view: u8) -> u8
     ensures { result ≡ only_of view }
 {
-    pick(view == 1, 0, pick(view == 2, 1, 2))
-}
-
-// How many rounds follow this one.
-fn rounds_left(round: u8) -> u32
-    ensures { result ≡ 16 - round }
-{
-    if 16 <= round {
-        return 0;
+    match view {
+        1 => 0,
+        2 => 1,
+        _ => 2,
     }
-    16 - round as u32
 }
 
 // The host's coin bit of its round, round 1 first.
 #[tactic(auto, unfolding(host::specs::Record::coin))]
-fn coin_of(h: Host) -> u8
-    ensures { result ≡ coin h }
+fn coin_of(host: Host) -> u8
+    ensures { result ≡ coin host }
 {
-    let left = rounds_left(h.round);
-    (h.coins as u32 >> left & 1) as u8
+    let left = 16u8.saturating_sub(host.round);
+    (host.coins as u32 >> left & 1) as u8
 }
 
 // The estimate after a view of phase 1.
@@ -78,8 +67,10 @@ fn coin_of(h: Host) -> u8
 fn phase_estimate(view: u8, coin: u8) -> u8
     ensures { result ≡ phase_estimate view coin }
 {
-    let v = only(view);
-    pick(v == 2, coin, v)
+    match only(view) {
+        2 => coin,
+        value => value,
+    }
 }
 
 // The estimate after a view of phase 2.
@@ -87,9 +78,13 @@ fn phase_estimate(view: u8, coin: u8) -> u8
 fn round_estimate(view: u8, est: u8) -> u8
     ensures { result ≡ round_estimate view est }
 {
-    let zero = quorum::has(view as u32, 0);
-    let one = quorum::has(view as u32, 1);
-    pick(zero, 0, pick(one, 1, est))
+    if quorum::has(view as u32, 0) {
+        return 0;
+    }
+    if quorum::has(view as u32, 1) {
+        return 1;
+    }
+    est
 }
 
 // The decision after a view of phase 2.
@@ -97,40 +92,33 @@ fn round_estimate(view: u8, est: u8) -> u8
 fn decision(view: u8, old: u8) -> u8
     ensures { result ≡ decided view old }
 {
-    pick(old == 2, only(view), old)
+    if old == host::UNDECIDED {
+        only(view)
+    } else {
+        old
+    }
 }
 
 // The next round, or after the last one finished.
 #[tactic(auto, unfolding(crate::specs::View::after_round))]
-fn next_round(h: Host, est: u8, decision: u8) -> Host
-    ensures { result ≡ after_round h est decision }
+fn next_round(host: Host, est: u8, decision: u8) -> Host
+    ensures { result ≡ after_round host est decision }
 {
-    if 16 <= h.round {
-        return stand(
-            move_to(h, h.round, h.phase, h.stage, h.own, est, decision),
-            1,
-        );
+    if 16 <= host.round {
+        return Host {
+            est,
+            decision,
+            standing: host::FINISHED,
+            ..host
+        };
     }
-    move_to(h, h.round + 1, 1, 0, est, est, decision)
-}
-
-// The record at another place, with these values.
-fn move_to(mut h: Host, round: u8, phase: u8, stage: u8, own: u8, est: u8, decision: u8) -> Host
-    ensures { result ≡ moved h round phase stage own est decision }
-{
-    h.round = round;
-    h.phase = phase;
-    h.stage = stage;
-    h.own = own;
-    h.est = est;
-    h.decision = decision;
-    h
-}
-
-// The record with another standing.
-fn stand(mut h: Host, standing: u8) -> Host
-    ensures { result ≡ stood h standing }
-{
-    h.standing = standing;
-    h
+    Host {
+        round: host.round + 1,
+        phase: 1,
+        stage: 0,
+        own: est,
+        est,
+        decision,
+        ..host
+    }
 }

@@ -7,25 +7,21 @@ ghost use Rattle.answer.specs.Answer.{number_of};
 ghost use Rattle.frame.specs.Frame.{unpacking};
 ghost use Rattle.words.specs.Words.{tally};
 
-use frame::{Packed, Unpacked};
+use answer::Refusal;
 use std::io;
 
 fn main(rt: HostRuntime) -> io::Result<()> {
-    print(&rt, "refused 7: ", how_many(7))?;
-    print(&rt, "refused 8: ", how_many(8))?;
-    print(&rt, "refused 9: ", how_many(9))?;
-    print(
-        &rt,
-        "accepted, and packed to the same word: ",
-        how_many(SAME),
-    )?;
-    print(
-        &rt,
-        "accepted, and not packed to the same word: ",
-        how_many(OTHER),
+    for refusal in [Refusal::Version, Refusal::Round, Refusal::Value] {
+        println!(rt; "{refusal}: {}", how_many(u8::from(refusal)))?;
+    }
+    println!(rt; "accepted, and packed to the same word: {}", how_many(SAME))?;
+    println!(rt;
+        "accepted, and not packed to the same word: {}",
+        how_many(OTHER)
     )
 }
 
+// Kept: answers by numbers, since `tally` counts the words by them.
 // An accepted word is answered by one of these, which are no refusals of unpacking.
 const SAME: u8 = 0;
 
@@ -37,27 +33,22 @@ fn answer_to(word: u16) -> u8
     ensures { result ≡ number_of (unpacking word) }
 {
     match frame::unpack(word) {
-        Unpacked::Refused(number) => number,
-        Unpacked::Frame(f) => match frame::pack(f) {
-            Packed::Word(again) => { if again == word { SAME } else { OTHER } }
-            Packed::Refused(_) => OTHER,
-        },
+        Err(refusal) => u8::from(refusal),
+        Ok(frame) => {
+            if frame::pack(frame) == Ok(word) {
+                SAME
+            } else {
+                OTHER
+            }
+        }
     }
 }
 
 // How many of all words are answered so.
-fn how_many(answer: u8) -> u32
+fn how_many(answer: u8) -> usize
     ensures { result ≡ tally 65536 answer }
 {
-    let mut found = 0;
-    for word in 0..65536u32 {
-        if answer_to(word as u16) == answer {
-            found += 1;
-        }
-    }
-    found
-}
-
-fn print(rt: &impl Print, text: &str, number: u32) -> io::Result<()> {
-    println!(rt; "{text}{number}")
+    (0..65536u32)
+        .filter(|&word| answer_to(word as u16) == answer)
+        .count()
 }

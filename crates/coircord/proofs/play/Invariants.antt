@@ -1,7 +1,6 @@
--- The place stays within the events. Assumes nothing.
-use Prim.Native.Nat.{◌≤◌}
-use lib.ListN.{length}
+-- Fewer events are left to play each time. Assumes nothing.
+use Rattle.std.proofs.Common.{length}
 use Rattle.coircord.proofs.play.Given as goal
 
-abbrev pub invariant-loop-call : goal.invariant-loop-call
-invariant-loop-call g l = l.at ≤ length l.events
+abbrev pub decreases-loop-played : goal.decreases-loop-played
+decreases-loop-played g l = length l.events

@@ -1,16 +1,14 @@
--- `event_line` meets its promise: the pattern, filled, is the line.
-use Rattle.std.proofs.Common.{ap, arith, length}
+-- `event_line` meets its promise: its parts are the line.
+use Rattle.std.proofs.Common.{refl, rules, append_assoc}
+use borrow.Author.Tests.{le-ltb}
 use Rattle.report.specs.Text.{text}
-use Rattle.report.specs.Lines.{room_guards}
-use Rattle.report.proofs.Lines.{event_is, event_most}
-use Rattle.report.proofs.Written.{means_line}
+use Rattle.report.specs.Lines.{event_line}
+use Rattle.report.proofs.Adding.{◌then◌, means}
+use Rattle.report.proofs.Written.{written}
 use Rattle.report.proofs.event_line.Goals as goal
 
-pub write-requires : goal.write-requires
-unfolding text
-write-requires c =
-    (omega arith, omega (arith, ap length (event_is c.args.event c.args.number), event_most c.args.event c.args.number (omega arith) (omega arith)))
-
 pub returns : goal.returns
-unfolding text
-returns c = means_line c.args.out.now (room_guards c.args.out.now) c.write.ensures (event_is c.args.event c.args.number)
+unfolding text event_line
+returns c =
+    written _ (le-ltb _ _ c.if-out-lt-ROOM.false, tt)
+    (means (c.field.ensures then c.field-2.ensures then c.text.ensures) (simp append_assoc)) refl (search rules)

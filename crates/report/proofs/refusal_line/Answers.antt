@@ -1,16 +1,13 @@
--- `refusal_line` meets its promise: the pattern, filled, is the line.
-use Rattle.std.proofs.Common.{ap, arith, length}
+-- `refusal_line` meets its promise.
+use Rattle.std.proofs.Common.{refl, rules}
+use borrow.Author.Tests.{le-ltb}
 use Rattle.report.specs.Text.{text}
-use Rattle.report.specs.Lines.{room_guards}
-use Rattle.report.proofs.Lines.{refusal_is, refusal_most}
-use Rattle.report.proofs.Written.{means_line}
+use Rattle.report.specs.Lines.{refusal_line}
+use Rattle.report.proofs.Adding.{◌then◌}
+use Rattle.report.proofs.Written.{written}
 use Rattle.report.proofs.refusal_line.Goals as goal
 
-pub write-requires : goal.write-requires
-unfolding text
-write-requires c =
-    (omega arith, omega (arith, ap length (refusal_is c.args.number), refusal_most c.args.number (omega arith)))
-
 pub returns : goal.returns
-unfolding text
-returns c = means_line c.args.out.now (room_guards c.args.out.now) c.write.ensures (refusal_is c.args.number)
+unfolding text refusal_line
+returns c =
+    written _ (le-ltb _ _ c.if-out-lt-ROOM.false, tt) (c.field.ensures then c.text.ensures) refl (search rules)

@@ -3,12 +3,7 @@ use Rattle.std.proofs.Common.{sym, length}
 use Rattle.table.proofs.Passing.{step_in}
 use Rattle.table.proofs.step.Goals as goal
 
-pub deliver-requires : goal.deliver-requires
-deliver-requires c =
+pub act-requires : goal.act-requires
+act-requires c =
     let a = c.args in
-    step_in (length a.table.now) a.host a.sender a.world a.event (sym c.in_default.ensures)
-
-pub turn-requires : goal.turn-requires
-turn-requires c =
-    let a = c.args in
-    step_in (length a.table.now) a.host a.sender a.world a.event (sym c.in_default.ensures)
+    step_in (length a.table.now) a.host a.sender a.world a.event (sym c.in_ok-gate.ensures)

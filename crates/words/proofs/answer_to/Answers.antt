@@ -1,15 +1,13 @@
 -- Where a word is accepted, packing its frame can't give another word or a refusal. Assumes nothing.
-use mathlib.Core.Path.{sym}
+use mathlib.Core.Path.{refl, ◌∙◌}
 use native.Mathlib.Omega.{arith}
-use Rattle.frame.proofs.RoundTrip.{packs_back, word_stands}
+use borrow.Author.Tests.{eq-eqb}
+use Rattle.answer.proofs.Tests.{clash}
+use Rattle.frame.proofs.RoundTrip.{packs_back}
 use Rattle.words.proofs.answer_to.Goals as goal
 
-pub returns-else-again-word : goal.returns-else-again-word
-returns-else-again-word c =
-    let same = packs_back c.args.word c.in-Frame.f c.pack.result (omega arith) c.in-Frame.ensures c.pack.ensures in
-    let again = c.in-Word.is in
-    absurd (c.if-again-word.false (cc))
-
-pub returns-in-Refused-pack : goal.returns-in-Refused-pack
-returns-in-Refused-pack c =
-    absurd (word_stands c.args.word c.in-Frame.f c.in-Refused-pack.field-0 (omega arith) (sym c.in-Frame.ensures) (sym c.in-Refused-pack.ensures))
+pub returns-else-eq : goal.returns-else-eq
+returns-else-eq c =
+    let same = packs_back c.args.word c.in-Ok.frame c.pack.result (omega arith) c.in-Ok.ensures c.pack.ensures in
+    let one = rw same at c.eq.ensures in
+    clash (one ∙ eq-eqb c.args.word c.args.word refl) c.if-eq.false

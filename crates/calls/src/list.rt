@@ -56,6 +56,7 @@ pub fn coircord_step(hosts: &mut [Host], table: &mut [u32], world: World, event:
 }
 
 // What the number of a step's answer says.
+// Kept: that number, since this call says what a number of C's means.
 #[tactic(auto, unfolding(crate::specs::List::answer_of))]
 pub fn answer_of(number: u32) -> Stepped
     ensures { Answers number result }

@@ -84,6 +84,7 @@ pub fn host_line(out: &mut [u8], me: u32, host: Host, world: World) -> Result<us
 }
 
 // The line of a host; of one that lies it ends at "lying".
+// Kept: room as a clause, here and of `put_decision`, since each part needs another.
 #[tactic(auto, using(crate::proofs::Digits::two_digits, crate::proofs::Digits::three_digits), unfolding(crate::specs::Text::text))]
 fn put_host(line: &mut Line, me: u32, host: Host)
     requires { (me < 32) × (line.old.length + 80 ≤ length line.old.out.now) }

@@ -16,7 +16,8 @@ pub(crate) struct Line<'a> {
     pub(crate) length: usize,
 }
 
-// Kept: room as a clause of each part, since each needs another.
+// Kept: room as a clause of each part, here and of `put_host` and `put_decision`, since each needs
+// another.
 impl Line<'_> {
     #[tactic(auto, using(std::proofs::lemmas::Slice::overwrites))]
     pub(crate) fn text(&mut self, text: &[u8])

@@ -53,8 +53,8 @@ fn sends(chosen: Move) -> bool
 }
 
 // What a move marks.
-// Kept: the words' number as a clause, here and of `take`, since they are written and `Words` only
-// reads them.
+// Kept: the words' number as a clause, here and of `take`, since both lend the words to be written and
+// `Words` only reads them.
 fn put_marks(sets: &mut [u32], chosen: Move)
     requires { InRange chosen × (448 ≤ length sets.old) }
     ensures { sets.new ≡ marked_by sets.old chosen }
@@ -98,7 +98,8 @@ fn answer(host: Host, me: u8, chosen: Move) -> Turned
 }
 
 // The broadcast of a frame in an instance, counted in the record.
-// Kept: a kind by its number, as the frame has it.
+// Kept: a kind by its number, as the frame has it, and an instance and a value side by side, as a
+// move has them.
 fn speak(host: Host, kind: u8, number: u8, value: u8, me: u8) -> Turned
     requires { host.sent < 224 }
     ensures { result ≡ Turned.Broadcast (sent_one host) (frame_at kind number value me) }

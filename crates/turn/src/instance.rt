@@ -25,6 +25,8 @@ pub(crate) struct Words<'a> {
 }
 
 // One of their instances. Its marks stand in rows: a row has one bit for each value.
+// Kept: the layout of the words here and in `delivery`, since a type for both crates would be public,
+// and its methods would ask for a kind and a value in range, while no public function asks anything.
 #[derive(Clone, Copy, Drop)]
 pub(crate) struct Instance<'a> {
     pub(crate) words: Words<'a>,

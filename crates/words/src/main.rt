@@ -21,7 +21,6 @@ fn main(rt: HostRuntime) -> io::Result<()> {
     )
 }
 
-// Kept: answers by numbers, since `tally` counts the words by them.
 // An accepted word is answered by one of these, which are no refusals of unpacking.
 const SAME: u8 = 0;
 
@@ -29,6 +28,7 @@ const OTHER: u8 = 1;
 
 // How a word is answered: by the number of its refusal, or by what packing makes of its frame. The
 // promise says that this never is OTHER.
+// Kept: answers by numbers, here and in `how_many`, since `tally` counts the words by them.
 fn answer_to(word: u16) -> u8
     ensures { result ≡ number_of (unpacking word) }
 {

@@ -36,7 +36,8 @@ pub(crate) struct Instance<'a> {
 
 impl Words<'_> {
     // The instance and the value of the first that is due, by round, phase, stage and value.
-    // Kept: nested loops that a label leaves, the form that document 01 asks for at this place.
+    // Kept: a nested search that a label leaves, the form that document 01 asks for at this place.
+    #[tactic(auto, using(crate::proofs::Searches::goes_on, crate::proofs::Searches::hits, crate::proofs::Searches::misses))]
     pub(crate) fn first_due(&self, need: u32, row: u8) -> Option<(u8, u8)>
         ensures { result ≡ search (due self.now.lent.now need row) }
     {
@@ -46,11 +47,9 @@ impl Words<'_> {
                 words: *self,
                 number,
             };
-            for value in 0..3 {
-                if instance.is_due(need, row, value) {
-                    found = Some((number, value));
-                    break 'search;
-                }
+            if let Some(value) = instance.first_due(need, row) {
+                found = Some((number, value));
+                break 'search;
             }
         }
         found
@@ -106,5 +105,12 @@ impl Instance<'_> {
         value < self.values()
             && need <= self.senders(VAL, value).count_ones()
             && !self.is_marked(row, value)
+    }
+
+    // The first of the three values that is due.
+    fn first_due(&self, need: u32, row: u8) -> Option<u8>
+        ensures { result ≡ first (due self.now.words.lent.now need row self.now.number) 3 }
+    {
+        (0..3).find(|&value| self.is_due(need, row, value))
     }
 }

@@ -81,7 +81,10 @@ pub fn answer_of(number: u32) -> Stepped
 fn first_event(bytes: &[u8]) -> Result<Event, Refusal>
     ensures { says result ≡ event_in bytes.now 0 }
 {
-    file::event_at(bytes, 0).unwrap_or(Err(Refusal::Incomplete))
+    match file::event_at(bytes, 0) {
+        Some(seen) => seen,
+        None => Err(Refusal::Incomplete),
+    }
 }
 
 // The places of the event's host and of the frame's sender in the list.

@@ -52,7 +52,10 @@ pub fn deliver_word(
     ensures { DeliversWord sets.old host world word said result sets.new }
 {
     gates::receiver(sets.len(), host, world)?;
-    let frame = frame::unpack(word)?;
+    let unpacked = frame::unpack(word);
+    let Ok(frame) = unpacked else {
+        return unpacked.map(|_| ());
+    };
     deliver(sets, host, world, frame, said)
 }
 

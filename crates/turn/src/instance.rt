@@ -36,8 +36,7 @@ pub(crate) struct Instance<'a> {
 
 impl Words<'_> {
     // The instance and the value of the first that is due, by round, phase, stage and value.
-    // Kept: a nested search that a label leaves, the form that document 01 asks for at this place.
-    #[tactic(auto, using(crate::proofs::Searches::goes_on, crate::proofs::Searches::hits, crate::proofs::Searches::misses))]
+    // Kept: nested loops that a label leaves, the form that document 01 asks for at this place.
     pub(crate) fn first_due(&self, need: u32, row: u8) -> Option<(u8, u8)>
         ensures { result ≡ search (due self.now.lent.now need row) }
     {
@@ -47,9 +46,11 @@ impl Words<'_> {
                 words: *self,
                 number,
             };
-            if let Some(value) = instance.first_due(need, row) {
-                found = Some((number, value));
-                break 'search;
+            for value in 0..3 {
+                if instance.is_due(need, row, value) {
+                    found = Some((number, value));
+                    break 'search;
+                }
             }
         }
         found
@@ -97,20 +98,14 @@ impl Instance<'_> {
     }
 
     // Whether a value is one of the instance, has `need` or more VAL senders and is not marked in a
-    // row.
+    // row. A set is counted only where its mark is not set and it has a member, or none is needed.
     #[tactic(auto, unfolding(crate::specs::Moves::due))]
     fn is_due(&self, need: u32, row: u8, value: u8) -> bool
         ensures { result ≡ due self.now.words.lent.now need row self.now.number value }
     {
         value < self.values()
-            && need <= self.senders(VAL, value).count_ones()
+            && need.min(1) <= self.senders(VAL, value)
             && !self.is_marked(row, value)
-    }
-
-    // The first of the three values that is due.
-    fn first_due(&self, need: u32, row: u8) -> Option<u8>
-        ensures { result ≡ first (due self.now.words.lent.now need row self.now.number) 3 }
-    {
-        (0..3).find(|&value| self.is_due(need, row, value))
+            && need <= self.senders(VAL, value).count_ones()
     }
 }

@@ -17,7 +17,7 @@ lengths a b c d e = simp length-append
 
 pub refusal_most : (number : ℕ) → number < 1000 → length (refusal_line number) ≤ 12
 unfolding text refusal_line
-refusal_most number l = omega (arith, length-append (decimal number) (text "\n"), few 3 number (omega arith) (omega arith) (omega arith))
+refusal_most number l = omega (arith, length-append (decimal number) (text "\n"), few 2 number (omega arith))
 
 pub event_most : (event number : ℕ) → event < 10000000000 → number < 1000 → length (event_line event number) ≤ 29
 unfolding text event_line
@@ -25,8 +25,8 @@ event_most event number k l =
     omega (
       arith,
       lengths (text "event ") (decimal event) (text " refused ") (decimal number) (text "\n"),
-      few 10 event (omega arith) (omega arith) (omega arith),
-      few 3 number (omega arith) (omega arith) (omega arith),
+      few 9 event (omega arith),
+      few 2 number (omega arith),
     )
 
 pub totals_most : (events refusals : ℕ) → events < 10000000000 → refusals < 10000000000 → length (totals_line events refusals) ≤ 37
@@ -35,8 +35,8 @@ totals_most events refusals k l =
     omega (
       arith,
       lengths (text "events ") (decimal events) (text " refused ") (decimal refusals) (text "\n"),
-      few 10 events (omega arith) (omega arith) (omega arith),
-      few 10 refusals (omega arith) (omega arith) (omega arith),
+      few 9 events (omega arith),
+      few 9 refusals (omega arith),
     )
 
 -- ---- The host line
@@ -51,7 +51,7 @@ decision_most : (h : Host) → h.decision < 10 → length (decision_word h) ≤ 
 unfolding text
 decision_most h l =
     either (λ x. length x ≤ 1) (eqb h.decision 2) (text "-") (decimal h.decision) (λ e. omega arith)
-    (λ e. few 1 h.decision (omega arith) (omega arith) (omega arith))
+    (λ e. few 0 h.decision (omega arith))
 
 lengths_12 : (a b c d e f g h i j k l : List ℕ) → length (a ++ b ++ c ++ d ++ e ++ f ++ g ++ h ++ i ++ j ++ k ++ l)
     ≡ length a + length b + length c + length d + length e + length f + length g + length h + length i + length j + length k + length l
@@ -62,18 +62,18 @@ unfolding text
 fields_most h v =
     let n = lengths_12 (text " round ") (decimal h.round) (text " phase ") (decimal h.phase) (text " stage ") (decimal h.stage)
     (text " est ") (decimal h.est) (text " decided ") (decision_word h) (text " sent ") (decimal h.sent) in
-    let r = few 2 h.round (omega arith) (omega (arith, v.round_high)) (omega (arith, v.round_high)) in
-    let p = few 1 h.phase (omega arith) (omega (arith, v.phase_high)) (omega (arith, v.phase_high)) in
-    let s = few 1 h.stage (omega arith) (omega (arith, v.stage)) (omega (arith, v.stage)) in
-    let e = few 1 h.est (omega arith) (omega (arith, v.est)) (omega (arith, v.est)) in
+    let r = few 1 h.round (omega (arith, v.round_high)) in
+    let p = few 0 h.phase (omega (arith, v.phase_high)) in
+    let s = few 0 h.stage (omega (arith, v.stage)) in
+    let e = few 0 h.est (omega (arith, v.est)) in
     let d = decision_most h (omega (arith, v.decision)) in
-    let m = few 3 h.sent (omega arith) (omega (arith, v.sent)) (omega (arith, v.sent)) in
+    let m = few 2 h.sent (omega (arith, v.sent)) in
     omega arith
 
 pub host_most : (me : ℕ) (h : Host) → me < 32 → Valid h → length (host_line me h) ≤ 67
 unfolding text host_line
 host_most me h l v =
-    let m = few 2 me (omega arith) (omega arith) (omega arith) in
+    let m = few 1 me (omega arith) in
     either (λ x. length (text "host " ++ decimal me ++ text " " ++ x ++ text "\n") ≤ 67) (lying h) (text "lying") (standing_word h ++ fields h)
     (λ e. omega (arith, lengths (text "host ") (decimal me) (text " ") (text "lying") (text "\n"), m))
     (λ e. omega (

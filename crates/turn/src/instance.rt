@@ -98,14 +98,13 @@ impl Instance<'_> {
     }
 
     // Whether a value is one of the instance, has `need` or more VAL senders and is not marked in a
-    // row. A set is counted only where its mark is not set and it has a member, or none is needed.
+    // row.
     #[tactic(auto, unfolding(crate::specs::Moves::due))]
     fn is_due(&self, need: u32, row: u8, value: u8) -> bool
         ensures { result ≡ due self.now.words.lent.now need row self.now.number value }
     {
         value < self.values()
-            && need.min(1) <= self.senders(VAL, value)
-            && !self.is_marked(row, value)
             && need <= self.senders(VAL, value).count_ones()
+            && !self.is_marked(row, value)
     }
 }

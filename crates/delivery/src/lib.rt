@@ -41,6 +41,7 @@ pub fn deliver(
 }
 
 // The same for a packed frame, with 7 before 8: one that can't be read goes no further.
+// Kept: `let .. else` for what unpacking answers, the form that document 01 asks for at this place.
 #[tactic(auto, using(crate::proofs::Passing::delivering_word_is))]
 pub fn deliver_word(
     sets: &mut [u32],
